@@ -1,0 +1,7 @@
+pub mod Meaning
+pub mod Schemes
+pub mod Faults
+pub mod Calls
+pub mod Settling
+pub mod Derivations
+pub mod Grading

@@ -1,0 +1,95 @@
+ghost use mathlib.Core.Path.{_≡_};
+ghost use Rattle.model.specs.Faults.{layer-of, number-of, letter-of};
+
+// Who a fault speaks of: the one who wrote the text, or the one who called the heap.
+#[derive(Clone, Copy, PartialEq, Eq, Debug)]
+pub enum Layer {
+    Text,
+    Heap,
+}
+
+impl Layer {
+    // The letter that stands for the layer in an answer.
+    pub fn letter(self) -> char
+        ensures { λ r. ⌜ r ≡ letter-of self ⌝ }
+    {
+        match self {
+            Layer::Text => 't',
+            Layer::Heap => 'h',
+        }
+    }
+}
+
+// Why a call or a line is refused.
+#[derive(Clone, Copy, PartialEq, Eq, Debug)]
+pub enum Cause {
+    // a cell number above 1,023
+    CellNumber,
+    // put on a filled cell
+    CellFilled,
+    // a size of 0 or above 1,048,576
+    CellSize,
+    // a record number above 4,095
+    RecordNumber,
+    // root, link or tie on a filled record
+    RecordFilled,
+    // a record names an empty cell
+    CellEmpty,
+    // a strength above 3
+    StrengthNumber,
+    // erase of an empty record
+    RecordEmpty,
+    // fewer than 1,024 rows
+    RowsShort,
+    // a limit made of a number that is no grade
+    LimitNumber,
+    // a line over 80 bytes
+    LineLong,
+    // a first word that is no command
+    NoCommand,
+    // a wrong count of words
+    WordCount,
+    // a word that is not the number or the letter wanted
+    BadWord,
+}
+
+impl Cause {
+    pub fn layer(self) -> Layer
+        ensures { λ r. ⌜ r ≡ layer-of self ⌝ }
+    {
+        match self {
+            Cause::LineLong | Cause::NoCommand | Cause::WordCount | Cause::BadWord => Layer::Text,
+            _ => Layer::Heap,
+        }
+    }
+
+    pub fn number(self) -> u32
+        ensures { λ r. ⌜ r ≡ number-of self ⌝ }
+    {
+        match self {
+            Cause::CellNumber => 1,
+            Cause::CellFilled => 2,
+            Cause::CellSize => 3,
+            Cause::RecordNumber => 4,
+            Cause::RecordFilled => 5,
+            Cause::CellEmpty => 6,
+            Cause::StrengthNumber => 7,
+            Cause::RecordEmpty => 8,
+            Cause::RowsShort => 9,
+            Cause::LimitNumber => 13,
+            Cause::LineLong => 30,
+            Cause::NoCommand => 31,
+            Cause::WordCount => 32,
+            Cause::BadWord => 33,
+        }
+    }
+}
+
+// A refusal: its cause, which has a layer and a number, and its place.
+// On the heap's layer the place is the argument, counted from 1, and 0 for
+// working memory; on the text's layer it is the byte of the line, from 0.
+#[derive(Clone, Copy, PartialEq, Eq, Debug)]
+pub struct Fault {
+    pub cause: Cause,
+    pub place: u32,
+}
