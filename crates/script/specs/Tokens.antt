@@ -1,22 +1,27 @@
 -- What the code's tokens hold of a line.
-use Prim.Native.Nat.{ℕ}
-use mathlib.Core.Path.{_≡_}
-use mathlib.Core.List.{List}
+use Rattle.std.specs.declared.result.Result.{Result}
+use Rattle.std.specs.declared.result.Result.the-variants.{Ok, Err}
+use Rattle.script.specs.declared.refusal.Refusal.{Refusal}
 use Rattle.script.specs.declared.words.Token.{Token}
 use Rattle.script.specs.declared.words.Token.the-variants.{Number, Letter, Other}
 use Rattle.script.specs.declared.words.Words.{Words}
-use Rattle.script.specs.Words.{Lexeme, numeral, letter, other, word, word-count}
+use Rattle.script.specs.Words.{Lexeme, numeral, letter, other, Reading}
 
 abbrev pub lexeme-of : Token → Lexeme
 lexeme-of (Number digits at) = numeral (digits .now) at
 lexeme-of (Letter l at) = letter (l .now) at
 lexeme-of (Other at) = other at
 
--- w holds the words of the line
-pub record Holds (line : List ℕ) (w : Words) : Type 0 where
-  pub count : w .count ≡ word-count line
-  pub verb : lexeme-of (w .verb) ≡ word line 0
-  pub first : lexeme-of (w .first) ≡ word line 1
-  pub second : lexeme-of (w .second) ≡ word line 2
-  pub third : lexeme-of (w .third) ≡ word line 3
-  pub fourth : lexeme-of (w .fourth) ≡ word line 4
+abbrev pub reading-of : Words → Reading
+reading-of w = record {
+  count = w .count;
+  verb = lexeme-of (w .verb);
+  first = lexeme-of (w .first);
+  second = lexeme-of (w .second);
+  third = lexeme-of (w .third);
+  fourth = lexeme-of (w .fourth);
+}
+
+abbrev pub reading-if : Result Words Refusal → Result Reading Refusal
+reading-if (Ok w) = Ok (reading-of w)
+reading-if (Err e) = Err e

@@ -45,12 +45,35 @@ abbrev pub word-from : ℕ → List ℕ → ℕ → Lexeme
 word-from at bs zero = lexeme (front bs) at
 word-from at bs (suc k) = word-from (at + length (front bs) + 1) (behind bs) k
 
--- word k of a line, counted from 0
-abbrev pub word : List ℕ → ℕ → Lexeme
-word line k = word-from 0 line k
+-- how many words a line has, and the first five: no command has more
+pub record Reading : Type 0 where
+  pub count : ℕ
+  pub verb : Lexeme
+  pub first : Lexeme
+  pub second : Lexeme
+  pub third : Lexeme
+  pub fourth : Lexeme
+
+abbrev pub reading : List ℕ → Reading
+reading line = record {
+  count = word-count line;
+  verb = word-from 0 line 0;
+  first = word-from 0 line 1;
+  second = word-from 0 line 2;
+  third = word-from 0 line 3;
+  fourth = word-from 0 line 4;
+}
 
 -- where a word begins
 abbrev pub place-of : Lexeme → ℕ
 place-of (numeral ds at) = at
 place-of (letter b at) = at
 place-of (other at) = at
+
+-- where word k begins; 0 for any but the first four behind the command
+abbrev pub byte-of : Reading → ℕ → ℕ
+byte-of w k =
+    cond (eqb k 1) (place-of (w .first))
+    (cond (eqb k 2) (place-of (w .second))
+    (cond (eqb k 3) (place-of (w .third))
+    (cond (eqb k 4) (place-of (w .fourth)) 0)))

@@ -1,2 +1,4 @@
+pub mod command;
+pub mod number;
 pub mod refusal;
 pub mod words;

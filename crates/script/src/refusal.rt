@@ -1,3 +1,6 @@
+ghost use mathlib.Core.Path.{_≡_};
+ghost use Rattle.script.specs.Commands.{refuse};
+use model::fault::Cause;
 use model::fault::Fault;
 use model::fault::FaultDebug;
 use model::fault::FaultPartialEq;
@@ -7,4 +10,14 @@ use model::fault::FaultPartialEq;
 pub struct Refusal {
     pub fault: Fault,
     pub byte: u32,
+}
+
+// A fault of the text.
+pub(crate) fn refused<T>(cause: Cause, byte: u32) -> Result<T, Refusal>
+    ensures { λ r. ⌜ r ≡ refuse cause byte ⌝ }
+{
+    Err(Refusal {
+        fault: Fault { cause, place: byte },
+        byte,
+    })
 }

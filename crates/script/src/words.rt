@@ -1,10 +1,18 @@
 ghost use mathlib.Core.Path.{_≡_};
 ghost use Prim.Native.Nat.{ℕ, _+_, _≤_, _<_};
 ghost use lib.ListN.{length, drop};
-ghost use Rattle.script.specs.Words.{lexeme, front, behind, word-count, word-from, word};
-ghost use Rattle.script.specs.Tokens.{lexeme-of, Holds};
+ghost use Rattle.script.specs.Words.{lexeme, front, behind, word-count, reading, byte-of, place-of};
+ghost use Rattle.script.specs.Commands.{words-in};
+ghost use Rattle.script.specs.Tokens.{lexeme-of, reading-of, reading-if};
+
+use crate::refusal::Refusal;
+use crate::refusal::refused;
+use model::fault::Cause;
 
 const SPACE: u8 = b' ';
+
+// A longer line is refused.
+const LONGEST: usize = 80;
 
 // A word of a line by what it can stand for: the part of the line that it is,
 // and the byte where it begins.
@@ -92,23 +100,57 @@ fn count_words(line: &[u8]) -> usize
     count
 }
 
+// The words of a line that is not too long.
+fn read_words<'a>(line: &'a [u8]) -> Words<'a>
+    requires { ⌜ length (now line) ≤ 80 ⌝ }
+    ensures { λ r. ⌜ reading-of r ≡ reading (now (line .entry)) ⌝ }
+{
+    let verb = cut_word(line, 0);
+    let first = cut_word(verb.rest, verb.at);
+    let second = cut_word(first.rest, first.at);
+    let third = cut_word(second.rest, second.at);
+    let fourth = cut_word(third.rest, third.at);
+    Words {
+        count: count_words(line),
+        verb: verb.word,
+        first: first.word,
+        second: second.word,
+        third: third.word,
+        fourth: fourth.word,
+    }
+}
+
 impl<'a> Words<'a> {
-    pub(crate) fn of(line: &'a [u8]) -> Self
-        requires { ⌜ length (now line) ≤ 80 ⌝ }
-        ensures { λ r. ⌜ Holds (now (line .entry)) r ⌝ }
+    // The words of a line, which is refused where it has more than 80 bytes.
+    pub fn of(line: &'a [u8]) -> Result<Self, Refusal>
+        ensures { λ r. ⌜ reading-if r ≡ words-in (now (line .entry)) ⌝ }
     {
-        let verb = cut_word(line, 0);
-        let first = cut_word(verb.rest, verb.at);
-        let second = cut_word(first.rest, first.at);
-        let third = cut_word(second.rest, second.at);
-        let fourth = cut_word(third.rest, third.at);
-        Words {
-            count: count_words(line),
-            verb: verb.word,
-            first: first.word,
-            second: second.word,
-            third: third.word,
-            fourth: fourth.word,
+        if line.len() > LONGEST {
+            return refused(Cause::LineLong, LONGEST as u32);
+        }
+        Ok(read_words(line))
+    }
+
+    // The byte where word `k` begins, for the words behind the command.
+    pub fn byte(&self, k: u32) -> u32
+        ensures { λ r. ⌜ r ≡ byte-of (reading-of (now (self .entry))) k ⌝ }
+    {
+        match k {
+            1 => self.first.at(),
+            2 => self.second.at(),
+            3 => self.third.at(),
+            4 => self.fourth.at(),
+            _ => 0,
+        }
+    }
+}
+
+impl Token<'_> {
+    fn at(self) -> u32
+        ensures { λ r. ⌜ r ≡ place-of (lexeme-of (self .entry)) ⌝ }
+    {
+        match self {
+            Token::Number { at, .. } | Token::Letter { at, .. } | Token::Other { at } => at,
         }
     }
 }
