@@ -23,7 +23,7 @@ pub trait Scheme {
     ghost model: { Self → Model Self·Grade };
 
     // the laws that grading rests on
-    ghost lawful: { (s : Self) → Lawful (model s) };
+    law lawful: { (s : Self) → Lawful (model s) };
 
     fn rank(&self, a: Self::Grade, b: Self::Grade) -> Rank
         ensures { λ r. ⌜ r ≡ model (now (self .entry)) .rank a b ⌝ };

@@ -1,0 +1,8 @@
+mod Loops
+mod Least
+mod Passes
+mod Counts
+mod Sealing
+mod Rounds
+mod Within
+mod Promise

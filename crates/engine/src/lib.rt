@@ -1,0 +1,49 @@
+ghost use Prim.Native.Nat.{ℕ, _≤_, _<_};
+ghost use mathlib.Core.Path.{_≡_};
+ghost use lib.ListN.{length, getD};
+ghost use Rattle.std.specs.declared.option.Option.the-variants.{None};
+ghost use Rattle.model.specs.Grading.{grade-answer, grade-after, Tells};
+use model::fault::Cause;
+use model::fault::Fault;
+use model::heap::Heap;
+use model::row::Counts;
+use model::row::Row;
+use model::scheme::Scheme;
+use rows::CELLS;
+use turns::settle_all;
+
+mod offers;
+mod rows;
+mod turns;
+mod weigh;
+
+// Grades the cells of `heap` under `scheme`. The first 1,024 rows become those of the
+// settling rule, whatever they held, and the others stand; fewer rows are refused.
+pub fn grade<S: Scheme, H: Heap>(
+    scheme: &S,
+    heap: &H,
+    rows: &mut [Option<Row<S::Grade>>],
+) -> Result<Counts, Fault>
+    ensures answers { λ r.
+        let s = S·Scheme .model (now (scheme .entry)) in
+        let h = H·Heap .meaning (now (heap .entry)) in
+        ⌜ r ≡ grade-answer s h (now (rows .entry)) ⌝ }
+    ensures fills { λ _.
+        let s = S·Scheme .model (now (scheme .entry)) in
+        let h = H·Heap .meaning (now (heap .entry)) in
+        ⌜ now (rows .exit) ≡ grade-after s h (now (rows .entry)) ⌝ }
+    ensures tells { λ _.
+        let s = S·Scheme .model (now (scheme .entry)) in
+        let h = H·Heap .meaning (now (heap .entry)) in
+        ⌜ ((c : ℕ) → c < 1024 → 1024 ≤ length (now (rows .entry))
+        → Tells s h c (getD (now (rows .exit)) c None)) ⌝ }
+{
+    if rows.len() < CELLS as usize {
+        return Err(Fault {
+            cause: Cause::RowsShort,
+            place: 0,
+        });
+    }
+    let front = &mut rows[..CELLS as usize];
+    Ok(settle_all(scheme, heap, front))
+}

@@ -1,0 +1,3 @@
+mod cells;
+pub mod live;
+mod records;

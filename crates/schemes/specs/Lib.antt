@@ -1,0 +1,4 @@
+pub mod Number
+pub mod Strength
+pub mod Bytes
+pub mod Depth

@@ -1,0 +1,4 @@
+pub mod bytes;
+pub mod depth;
+mod number;
+pub mod strength;
