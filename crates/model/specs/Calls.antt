@@ -2,8 +2,8 @@
 -- A call judges its arguments from the left, and at one argument the cause of
 -- smaller number first.
 use Prim.Native.Nat.{ℕ}
-use mathlib.Core.Bool.{Bool, _&&_, not, cond}
-use lib.Dec.{leb, ltb, eqb}
+use mathlib.Core.Bool.{_&&_, not}
+use lib.Dec.{leb, ltb}
 use lib.ListN.{set, replicate}
 use Rattle.std.specs.Options.{isSome}
 use Rattle.std.specs.declared.option.Option.{Option}
@@ -12,8 +12,7 @@ use Rattle.model.specs.declared.fault.Fault.{Fault}
 use Rattle.model.specs.declared.fault.Cause.the-variants.{CellNumber, CellFilled, CellSize, RecordNumber, RecordFilled, CellEmpty, StrengthNumber, RecordEmpty}
 use Rattle.model.specs.declared.record.Record.{Record}
 use Rattle.model.specs.declared.record.Record.the-variants.{Root, Link, Ephemeron}
-use Rattle.model.specs.declared.record.Strength.{Strength}
-use Rattle.model.specs.declared.record.Strength.the-variants.{Strong, Soft, Weak, Phantom}
+use Rattle.model.specs.Strengths.{strength-of}
 use Rattle.model.specs.Meaning.{Meaning, heap-of, cell-at, record-at}
 use Rattle.model.specs.Faults.{fault, unless, first, left}
 
@@ -52,9 +51,6 @@ held-fault h r place = first (record-fault r place) (unless (isSome (record-at h
 -- argument `place` is a strength: 0 strong, 1 soft, 2 weak, 3 phantom
 abbrev pub strength-fault : ℕ → ℕ → Option Fault
 strength-fault k place = unless (ltb k 4) (fault StrengthNumber place)
-
-abbrev pub strength-of : ℕ → Strength
-strength-of k = cond (eqb k 0) Strong (cond (eqb k 1) Soft (cond (eqb k 2) Weak Phantom))
 
 abbrev pub with-cell : Meaning → ℕ → Option ℕ → Meaning
 with-cell h n o = heap-of (set (h .cells) n o) (h .records)

@@ -1,3 +1,4 @@
+pub mod Strengths
 pub mod Meaning
 pub mod Schemes
 pub mod Faults

@@ -10,12 +10,12 @@ pub enum Layer {
 
 impl Layer {
     // The letter that stands for the layer in an answer.
-    pub fn letter(self) -> char
+    pub fn letter(self) -> u8
         ensures { λ r. ⌜ r ≡ letter-of self ⌝ }
     {
         match self {
-            Layer::Text => 't',
-            Layer::Heap => 'h',
+            Layer::Text => b't',
+            Layer::Heap => b'h',
         }
     }
 }

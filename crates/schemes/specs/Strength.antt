@@ -1,21 +1,14 @@
 -- Grading by strength: a cell's grade is the weakest link on the way to it.
 use Prim.Native.Nat.{ℕ}
 use mathlib.Core.Bool.{true, cond}
-use lib.Dec.{ltb, leb}
+use lib.Dec.{ltb}
 use Rattle.std.specs.declared.result.Result.{Result}
 use Rattle.model.specs.declared.fault.Fault.{Fault}
 use Rattle.model.specs.declared.record.Strength.{Strength}
-use Rattle.model.specs.declared.record.Strength.the-variants.{Strong, Soft, Weak, Phantom}
-use Rattle.model.specs.Calls.{strength-of}
+use Rattle.model.specs.declared.record.Strength.the-variants.{Strong}
+use Rattle.model.specs.Strengths.{strength-number, strength-of}
 use Rattle.model.specs.Schemes.{Scheme}
 use Rattle.schemes.specs.Number.{by-number, limit-if}
-
--- the number of a strength, the other way round than `strength-of`
-abbrev pub strength-number : Strength → ℕ
-strength-number Strong = 0
-strength-number Soft = 1
-strength-number Weak = 2
-strength-number Phantom = 3
 
 -- the one of the larger number
 abbrev pub weaker-of : Strength → Strength → Strength
@@ -33,4 +26,4 @@ by-strength = record {
 
 -- 0 to 3 are the numbers of strengths
 abbrev pub strength-limit : ℕ → Result Strength Fault
-strength-limit k = limit-if (leb k 3) (strength-of k)
+strength-limit k = limit-if (ltb k 4) (strength-of k)

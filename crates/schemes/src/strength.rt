@@ -1,5 +1,5 @@
 ghost use mathlib.Core.Path.{_≡_};
-ghost use Rattle.schemes.specs.Strength.{strength-number, weaker-of, by-strength, strength-limit};
+ghost use Rattle.schemes.specs.Strength.{weaker-of, by-strength, strength-limit};
 use crate::number::by_number;
 use model::fault::Cause;
 use model::fault::Fault;
@@ -11,22 +11,11 @@ use model::scheme::Scheme;
 #[derive(Clone, Copy)]
 pub struct ByStrength;
 
-fn strength_number(strength: Strength) -> u32
-    ensures { λ r. ⌜ r ≡ strength-number strength ⌝ }
-{
-    match strength {
-        Strength::Strong => 0,
-        Strength::Soft => 1,
-        Strength::Weak => 2,
-        Strength::Phantom => 3,
-    }
-}
-
 // The weaker of two strengths, the one of the larger number.
 fn weaker_of(a: Strength, b: Strength) -> Strength
     ensures { λ r. ⌜ r ≡ weaker-of a b ⌝ }
 {
-    if strength_number(a) < strength_number(b) {
+    if a.number() < b.number() {
         b
     } else {
         a
@@ -41,7 +30,7 @@ pub impl Scheme for ByStrength as ByStrengthScheme {
     ghost model = { λ _. by-strength };
 
     fn rank(&self, a: Strength, b: Strength) -> Rank {
-        by_number(strength_number(a), strength_number(b))
+        by_number(a.number(), b.number())
     }
 
     fn start(&self, _number: u16, _size: u32) -> Strength {
@@ -62,12 +51,9 @@ impl ByStrength {
     pub fn limit(number: u32) -> Result<Strength, Fault>
         ensures { λ r. ⌜ r ≡ strength-limit number ⌝ }
     {
-        match number {
-            0 => Ok(Strength::Strong),
-            1 => Ok(Strength::Soft),
-            2 => Ok(Strength::Weak),
-            3 => Ok(Strength::Phantom),
-            _ => Err(Fault {
+        match Strength::of(number) {
+            Some(strength) => Ok(strength),
+            None => Err(Fault {
                 cause: Cause::LimitNumber,
                 place: 2,
             }),

@@ -1,3 +1,5 @@
 pub mod Chains
 pub mod Digits
 pub mod Fronts
+pub mod RowTexts
+pub mod Spelling

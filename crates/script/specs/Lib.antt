@@ -2,3 +2,4 @@ pub mod Words
 pub mod Numbers
 pub mod Tokens
 pub mod Commands
+pub mod Answers

@@ -1,5 +1,7 @@
 pub mod command;
 pub mod number;
+pub mod print;
 pub mod refusal;
+pub mod show;
 pub mod words;
 pub mod write;

@@ -3,7 +3,8 @@
 ghost use mathlib.Core.Path.{_≡_};
 ghost use Rattle.model.specs.Faults.{answer};
 ghost use Rattle.model.specs.Calls.{cell-fault, filled-fault, empty-fault, size-fault};
-ghost use Rattle.model.specs.Calls.{record-fault, free-fault, held-fault, strength-fault, strength-of};
+ghost use Rattle.model.specs.Calls.{record-fault, free-fault, held-fault, strength-fault};
+ghost use Rattle.model.specs.Strengths.{strength-of};
 ghost use Rattle.live.specs.Live.{meaning-of};
 use super::LiveHeap;
 use crate::cells::CELLS;
@@ -57,12 +58,9 @@ pub(super) fn cell_size(n: u32, place: u32) -> Result<u32, Fault>
 pub(super) fn link_strength(n: u32, place: u32) -> Result<Strength, Fault>
     ensures { λ r. ⌜ r ≡ answer (strength-fault n place) (strength-of n) ⌝ }
 {
-    match n {
-        0 => Ok(Strength::Strong),
-        1 => Ok(Strength::Soft),
-        2 => Ok(Strength::Weak),
-        3 => Ok(Strength::Phantom),
-        _ => Err(Fault {
+    match Strength::of(n) {
+        Some(strength) => Ok(strength),
+        None => Err(Fault {
             cause: Cause::StrengthNumber,
             place,
         }),

@@ -1,0 +1,46 @@
+-- The text of the rows, row by row.
+use Prim.Native.Nat.{ℕ, zero, suc, _+_, _<_, _≤_}
+use mathlib.Core.Path.{_≡_, refl, sym, ap, subst, _∙_}
+use mathlib.Core.List.{List, [], _∷_, _++_, append-nil, append-assoc}
+use native.Mathlib.Omega.{arith}
+use native.Mathlib.Numerals.{add-one}
+use lib.ListN.{length, getD, take}
+use Rattle.std.specs.declared.option.Option.{Option}
+use Rattle.std.specs.declared.option.Option.the-variants.{Some, None}
+use Rattle.std.proofs.shelf.Lists.{getD-default, take-all}
+use Rattle.model.specs.declared.row.Row.{Row}
+use Rattle.model.specs.Settling.{Rows}
+use Rattle.script.specs.Answers.{Wrote, row-text-if, rows-text}
+use Rattle.script.proofs.Spelling.{and-then, as-text}
+
+module _ {G : Type 0} (show : G → List ℕ) where
+  rows-more : (c : ℕ) (xs : Rows G) (i : ℕ) → i < length xs →
+    rows-text show c (take (suc i) xs) ≡ rows-text show c (take i xs) ++ row-text-if show (c + i) (getD xs i None)
+  unfolding rows-text
+  rows-more c [] i l = absurd (omega arith)
+  rows-more c (x ∷ xs) zero l =
+      append-nil (row-text-if show c x) ∙ ap (λ (n : ℕ). row-text-if show n x) (omega arith)
+  rows-more c (x ∷ xs) (suc i) l =
+      ap (λ (t : List ℕ). row-text-if show c x ++ t) (rows-more (c + 1) xs i (omega arith))
+      ∙ (sym (append-assoc (row-text-if show c x) (rows-text show (c + 1) (take i xs)) (row-text-if show (c + 1 + i) (getD xs i None)))
+      ∙ ap (λ (n : ℕ). row-text-if show c x ++ rows-text show (c + 1) (take i xs) ++ row-text-if show n (getD xs i None)) (omega arith))
+
+  module _ (xs : Rows G) (i : ℕ) (l : i < length xs) where
+    more : rows-text show 0 (take (i + 1) xs) ≡ rows-text show 0 (take i xs) ++ row-text-if show i (getD xs i None)
+    more = rw add-one (rows-more 0 xs i l ∙ ap (λ (n : ℕ). rows-text show 0 (take i xs) ++ row-text-if show n (getD xs i None)) (omega arith))
+
+    -- row i behind the rows before it
+    pub row-more : {a b c : List ℕ} (o : Option (Row G)) → o ≡ getD xs i o →
+      Wrote a (rows-text show 0 (take i xs)) b → Wrote b (row-text-if show i o) c →
+      Wrote a (rows-text show 0 (take (i + 1) xs)) c
+    row-more o e v w =
+        let f : getD xs i None ≡ o = getD-default xs i None o l ∙ sym e in
+        as-text (sym (more ∙ ap (λ (x : Option (Row G)). rows-text show 0 (take i xs) ++ row-text-if show i x) f)) (and-then v w)
+
+  pub rows-none : (a : List ℕ) → Wrote a (rows-text show 0 []) a
+  unfolding rows-text
+  rows-none a = record { is = sym (append-nil a) }
+
+  pub rows-all : {a b : List ℕ} (xs : Rows G) (i : ℕ) → length xs ≤ i →
+    Wrote a (rows-text show 0 (take i xs)) b → Wrote a (rows-text show 0 xs) b
+  rows-all xs i l w = as-text (ap (rows-text show 0) (take-all i xs l)) w

@@ -1,0 +1,15 @@
+use Rattle.script.proofs.Spelling.{and-then, as-text, refusal-pieces}
+use Rattle.script.proofs.print.print_refusal.Needs as need
+
+pub returns : need.returns
+returns c =
+    as-text
+    (refusal-pieces (c .args .refusal) (c .layer .result) (c .letter .result) (c .number .result)
+    (c .layer .ensures) (c .letter .ensures) (c .number .ensures))
+    (and-then (and-then (and-then (and-then (and-then
+    (c .in-Continue-write-text .ensures tt)
+    (c .in-Continue-write-byte .ensures tt))
+    (c .in-Continue-write-byte-2 .ensures tt))
+    (c .in-Continue-write-number .ensures tt))
+    (c .in-Continue-write-byte-3 .ensures tt))
+    (c .in-Continue-write-number-2 .ensures tt))

@@ -1,0 +1,63 @@
+// The answers as they are printed, without the byte that ends the line.
+ghost use Rattle.std.specs.Of.Vec.{vec-items};
+ghost use Rattle.std.specs.Vec.{made};
+ghost use Rattle.script.specs.Answers.{Wrote, refusal-text, row-text-if, rows-text, graded-text};
+use crate::refusal::Refusal;
+use crate::show::Shown;
+use crate::write::write_byte;
+use crate::write::write_number;
+use crate::write::write_text;
+use model::row::Counts;
+use model::row::Row;
+use std::alloc::AllocError;
+
+pub fn print_refusal(out: &mut Vec<u8>, refusal: Refusal) -> Result<(), AllocError>
+    ensures { λ r. ⌜ made r (λ _. Wrote (vec-items (now (out .entry))) (refusal-text refusal) (vec-items (now (out .exit)))) ⌝ }
+{
+    let cause = refusal.fault.cause;
+    write_text(out, b"no ")?;
+    write_byte(out, cause.layer().letter())?;
+    write_byte(out, b' ')?;
+    write_number(out, cause.number() as u64)?;
+    write_byte(out, b' ')?;
+    write_number(out, refusal.byte as u64)?;
+    Ok(())
+}
+
+// A cell with its row; nothing where it is unsettled.
+fn print_row<G: Shown>(out: &mut Vec<u8>, cell: u64, row: Option<Row<G>>) -> Result<(), AllocError>
+    ensures { λ r. ⌜ made r (λ _. Wrote (vec-items (now (out .entry))) (row-text-if (G·Shown .text) cell row) (vec-items (now (out .exit)))) ⌝ }
+{
+    let Some(row) = row else {
+        return Ok(());
+    };
+    write_byte(out, b' ')?;
+    write_number(out, cell)?;
+    write_byte(out, b'=')?;
+    row.grade.write(out)?;
+    write_byte(out, b'/')?;
+    write_number(out, row.holder as u64)?;
+    Ok(())
+}
+
+// The settled cells in their order.
+fn print_rows<G: Shown>(out: &mut Vec<u8>, rows: &[Option<Row<G>>]) -> Result<(), AllocError>
+    ensures { λ r. ⌜ made r (λ _. Wrote (vec-items (now (out .entry))) (rows-text (G·Shown .text) 0 (now (rows .entry))) (vec-items (now (out .exit)))) ⌝ }
+{
+    for cell in 0..rows.len() {
+        print_row(out, cell as u64, rows[cell])?;
+    }
+    Ok(())
+}
+
+// What grading found: both counts, and the settled cells.
+pub fn print_graded<G: Shown>(out: &mut Vec<u8>, counts: Counts, rows: &[Option<Row<G>>]) -> Result<(), AllocError>
+    ensures { λ r. ⌜ made r (λ _. Wrote (vec-items (now (out .entry))) (graded-text (G·Shown .text) counts (now (rows .entry))) (vec-items (now (out .exit)))) ⌝ }
+{
+    write_text(out, b"ok ")?;
+    write_number(out, counts.settled as u64)?;
+    write_byte(out, b' ')?;
+    write_number(out, counts.weighed as u64)?;
+    print_rows(out, rows)?;
+    Ok(())
+}
