@@ -1,5 +1,7 @@
 pub mod Chains
 pub mod Digits
 pub mod Fronts
+pub mod Gradings
+pub mod Obeying
 pub mod RowTexts
 pub mod Spelling

@@ -3,3 +3,4 @@ pub mod Numbers
 pub mod Tokens
 pub mod Commands
 pub mod Answers
+pub mod Lines

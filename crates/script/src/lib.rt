@@ -1,4 +1,5 @@
 pub mod command;
+pub mod line;
 pub mod number;
 pub mod print;
 pub mod refusal;

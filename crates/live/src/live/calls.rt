@@ -22,7 +22,7 @@ impl LiveHeap {
         }
     }
 
-    // Fills an empty cell with a size. No call empties it again.
+    // Fills an empty cell with a size.
     pub fn put(&mut self, cell: u32, size: u32) -> Result<(), Fault>
         ensures answers { λ r. ⌜ r ≡ answer (put-fault (meaning-of (now (self .entry))) cell size) tt ⌝ }
         ensures leaves { λ _. ⌜ meaning-of (now (self .exit)) ≡

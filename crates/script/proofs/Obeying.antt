@@ -1,0 +1,61 @@
+-- What a line does, from what its words, its command and the heap answer.
+use Prim.Native.Nat.{ℕ}
+use mathlib.Core.Path.{_≡_, refl, sym, ap, _∙_}
+use mathlib.Core.List.{List}
+use native.Mathlib.Omega.{arith}
+use Rattle.std.specs.declared.option.Option.{Option}
+use Rattle.std.specs.declared.option.Option.the-variants.{Some, None}
+use Rattle.std.specs.declared.result.Result.{Result}
+use Rattle.std.specs.declared.result.Result.the-variants.{Ok, Err}
+use Rattle.model.specs.declared.fault.Fault.{Fault}
+use Rattle.model.specs.Faults.{answer}
+use Rattle.model.specs.Meaning.{Meaning}
+use Rattle.script.specs.declared.refusal.Refusal.{Refusal}
+use Rattle.script.specs.declared.command.Command.{Command}
+use Rattle.script.specs.declared.command.Command.the-variants.{Put, Root, Link, Tie, Erase, Grade}
+use Rattle.script.specs.Words.{Reading}
+use Rattle.script.specs.Commands.{words-in, command-in}
+use Rattle.script.specs.Lines.{fault-of, after-command, after-if, placed, obeyed, heap-after}
+
+ok-err : {A E : Type 0} {r : Result A E} {x : A} {e : E} → r ≡ Ok x → r ≡ Err e → ⊥
+ok-err p q = let z : _≡_ {A = ℕ} 0 1 = cc in omega arith
+
+err-same : {A E : Type 0} {r : Result A E} {d e : E} → r ≡ Err d → r ≡ Err e → d ≡ e
+err-same p q = cc
+
+-- a command with a fault leaves the heap alone
+fault-leaves : (h : Meaning) (c : Command) (f : Fault) → fault-of h c ≡ Some f → after-command h c ≡ h
+fault-leaves h (Put cell size) f e = rw e
+fault-leaves h (Root number target) f e = rw e
+fault-leaves h (Link number source target strength) f e = rw e
+fault-leaves h (Tie number table key value) f e = rw e
+fault-leaves h (Erase number) f e = rw e
+fault-leaves h (Grade scheme) f e = refl
+
+module _ (h : Meaning) (line : List ℕ) (w : Reading) (c : Command)
+  (k : Ok w ≡ words-in line) (m : Ok c ≡ command-in w) where
+
+  obeyed-is : obeyed h line ≡ placed w (answer (fault-of h c) c)
+  obeyed-is = rw (sym k, sym m)
+
+  pub line-obeyed : (u v : Unit {0}) (p : Result (Unit {0}) Fault) → p ≡ answer (fault-of h c) u → Ok v ≡ placed w p →
+    (Ok c ≡ obeyed h line) × (after-command h c ≡ heap-after h line)
+  line-obeyed u v p e f = go (fault-of h c) refl
+    where
+      done : fault-of h c ≡ None → obeyed h line ≡ Ok c
+      done q = obeyed-is ∙ (rw q)
+
+      go : (o : Option Fault) → fault-of h c ≡ o → (Ok c ≡ obeyed h line) × (after-command h c ≡ heap-after h line)
+      go None q = (sym (done q), ap (after-if h) (sym (done q)))
+      go (Some g) q = absurd (ok-err (sym f) (ap (placed w) (e ∙ ap (λ (o : Option Fault). answer o u) q)))
+
+  pub line-refused : (u : Unit {0}) (r : Refusal) (p : Result (Unit {0}) Fault) → p ≡ answer (fault-of h c) u → Err r ≡ placed w p →
+    (Err r ≡ obeyed h line) × (after-command h c ≡ heap-after h line)
+  line-refused u r p e f = go (fault-of h c) refl
+    where
+      go : (o : Option Fault) → fault-of h c ≡ o → (Err r ≡ obeyed h line) × (after-command h c ≡ heap-after h line)
+      go None q = absurd (ok-err (ap (placed w) (e ∙ ap (λ (o : Option Fault). answer o u) q)) (sym f))
+      go (Some g) q =
+          let refused : obeyed h line ≡ placed w (Err g) = obeyed-is ∙ (rw q) in
+          let same = err-same (ap (placed w) (e ∙ ap (λ (o : Option Fault). answer o u) q)) (sym f) in
+          (ap {B = Result Command Refusal} Err (sym same) ∙ sym refused, fault-leaves h c g q ∙ ap (after-if h) (sym refused))

@@ -1,0 +1,94 @@
+-- What a line does: the heap after it, and the answer that is printed.
+use Prim.Native.Nat.{ℕ}
+use mathlib.Core.List.{List, [], _∷_, _++_}
+use lib.Chars.{codes}
+use Rattle.std.specs.declared.option.Option.{Option}
+use Rattle.std.specs.declared.option.Option.the-variants.{Some, None}
+use Rattle.std.specs.declared.result.Result.{Result}
+use Rattle.std.specs.declared.result.Result.the-variants.{Ok, Err}
+use Rattle.model.specs.declared.fault.Fault.{Fault}
+use Rattle.model.specs.Faults.{answer}
+use Rattle.model.specs.Meaning.{Meaning}
+use Rattle.model.specs.Schemes.{Scheme}
+use Rattle.model.specs.Settling.{Rows, graded, weighed}
+use Rattle.model.specs.Grading.{rows-fault}
+use Rattle.model.specs.Calls.{put-fault, put-after, root-fault, root-after, link-fault, link-after, tie-fault, tie-after, erase-fault, erase-after}
+use Rattle.schemes.specs.Strength.{by-strength}
+use Rattle.schemes.specs.Bytes.{by-bytes}
+use Rattle.schemes.specs.Depth.{by-depth}
+use Rattle.script.specs.declared.refusal.Refusal.{Refusal}
+use Rattle.script.specs.declared.command.Command.{Command}
+use Rattle.script.specs.declared.command.Command.the-variants.{Put, Root, Link, Tie, Erase, Grade}
+use Rattle.script.specs.declared.command.SchemeName.{SchemeName}
+use Rattle.script.specs.declared.command.SchemeName.the-variants.{Strength, Bytes, Depth}
+use Rattle.script.specs.Words.{Reading, byte-of}
+use Rattle.script.specs.Commands.{words-in, command-in, then}
+use Rattle.script.specs.Answers.{refusal-text, graded-text, strength-text, bytes-text, depth-text}
+
+-- the fault of a command, if the heap finds one; a grading has memory enough
+abbrev pub fault-of : Meaning → Command → Option Fault
+fault-of h (Put cell size) = put-fault h cell size
+fault-of h (Root number target) = root-fault h number target
+fault-of h (Link number source target strength) = link-fault h number source target strength
+fault-of h (Tie number table key value) = tie-fault h number table key value
+fault-of h (Erase number) = erase-fault h number
+fault-of h (Grade scheme) = None
+
+-- the heap after a command
+abbrev pub after-command : Meaning → Command → Meaning
+after-command h (Put cell size) = put-after h cell size
+after-command h (Root number target) = root-after h number target
+after-command h (Link number source target strength) = link-after h number source target strength
+after-command h (Tie number table key value) = tie-after h number table key value
+after-command h (Erase number) = erase-after h number
+after-command h (Grade scheme) = h
+
+-- the heap's fault whole, with the byte where its argument's word begins
+abbrev pub placed : {A : Type 0} → Reading → Result A Fault → Result A Refusal
+placed w (Ok a) = Ok a
+placed w (Err f) = Err (record { fault = f; byte = byte-of w (f .place) })
+
+-- the command of a line that is obeyed, or the line's first fault
+abbrev pub obeyed : Meaning → List ℕ → Result Command Refusal
+obeyed h line =
+    then (words-in line) (λ w. then (command-in w) (λ c. placed w (answer (fault-of h c) c)))
+
+abbrev pub after-if : Meaning → Result Command Refusal → Meaning
+after-if h (Ok c) = after-command h c
+after-if h (Err r) = h
+
+-- the heap after a line: a refused line leaves it alone
+abbrev pub heap-after : Meaning → List ℕ → Meaning
+heap-after h line = after-if h (obeyed h line)
+
+-- settled, weighed and the settled cells under a scheme
+abbrev pub grades-text : {G : Type 0} → (G → List ℕ) → Scheme G → Meaning → List ℕ
+grades-text show s h =
+    graded-text show (record { settled = graded s h .turn; weighed = weighed s h }) (graded s h .rows)
+
+abbrev pub text-unless : Option Fault → List ℕ → List ℕ
+text-unless None text = text
+text-unless (Some f) text = refusal-text (record { fault = f; byte = 0 })
+
+-- the same, with the refusal of too few rows
+abbrev pub grading-text : {G : Type 0} → (G → List ℕ) → Scheme G → Meaning → Rows G → List ℕ
+grading-text show s h rows = text-unless (rows-fault rows) (grades-text show s h)
+
+abbrev pub scheme-text : SchemeName → Meaning → List ℕ
+scheme-text Strength h = grades-text strength-text by-strength h
+scheme-text Bytes h = grades-text bytes-text by-bytes h
+scheme-text Depth h = grades-text depth-text by-depth h
+
+-- an edit answers ok, a grading its counts and cells, a refusal its fault
+abbrev pub outcome-text : Meaning → Result Command Refusal → List ℕ
+outcome-text h (Ok (Put cell size)) = codes "ok"
+outcome-text h (Ok (Root number target)) = codes "ok"
+outcome-text h (Ok (Link number source target strength)) = codes "ok"
+outcome-text h (Ok (Tie number table key value)) = codes "ok"
+outcome-text h (Ok (Erase number)) = codes "ok"
+outcome-text h (Ok (Grade scheme)) = scheme-text scheme h
+outcome-text h (Err r) = refusal-text r
+
+-- the answer to a line, ended by byte 10
+abbrev pub answer-line : Meaning → List ℕ → List ℕ
+answer-line h line = outcome-text h (obeyed h line) ++ (10 ∷ [])

@@ -1,0 +1,133 @@
+// A line from its bytes to its answer's bytes.
+ghost use mathlib.Core.Path.{_≡_};
+ghost use Prim.Native.Nat.{_≤_};
+ghost use lib.ListN.{length, take};
+ghost use Rattle.std.specs.Of.Vec.{vec-items};
+ghost use Rattle.std.specs.Vec.{made};
+ghost use Rattle.std.specs.declared.result.Result.the-variants.{Ok};
+ghost use Rattle.model.specs.Faults.{answer as answered};
+ghost use Rattle.live.specs.Live.{meaning-of};
+ghost use Rattle.script.specs.Tokens.{reading-of};
+ghost use Rattle.script.specs.Answers.{Wrote};
+ghost use Rattle.script.specs.Lines.{fault-of, after-command, placed, obeyed, heap-after, grading-text, outcome-text, answer-line};
+use crate::command::Command;
+use crate::command::SchemeName;
+use crate::refusal::Refusal;
+use crate::words::Words;
+use crate::write::write_byte;
+use crate::write::write_text;
+use crate::print::print_graded;
+use crate::print::print_refusal;
+use crate::show::BytesShown;
+use crate::show::DepthShown;
+use crate::show::Shown;
+use crate::show::StrengthShown;
+use engine::grade;
+use live::live::LiveHeap;
+use live::live::answers::LiveHeapAnswers;
+use model::fault::Fault;
+use model::heap::Heap;
+use model::row::Row;
+use model::scheme::Scheme;
+use schemes::bytes::ByBytes;
+use schemes::bytes::ByBytesScheme;
+use schemes::depth::ByDepth;
+use schemes::depth::ByDepthScheme;
+use schemes::strength::ByStrength;
+use schemes::strength::ByStrengthScheme;
+use std::alloc::AllocError;
+
+const CELLS: usize = 1024;
+
+// Does what a command asks of the heap.
+fn perform(heap: &mut LiveHeap, command: Command) -> Result<(), Fault>
+    ensures answers { λ r. ⌜ r ≡ answered (fault-of (meaning-of (now (heap .entry))) command) tt ⌝ }
+    ensures leaves { λ _. ⌜ meaning-of (now (heap .exit)) ≡ after-command (meaning-of (now (heap .entry))) command ⌝ }
+{
+    match command {
+        Command::Put { cell, size } => heap.put(cell, size),
+        Command::Root { number, target } => heap.root(number, target),
+        Command::Link { number, source, target, strength } => heap.link(number, source, target, strength),
+        Command::Tie { number, table, key, value } => heap.tie(number, table, key, value),
+        Command::Erase { number } => heap.erase(number),
+        Command::Grade { .. } => Ok(()),
+    }
+}
+
+// Adds to the heap's fault the byte where its argument's word begins.
+fn at_word<T>(result: Result<T, Fault>, words: &Words) -> Result<T, Refusal>
+    ensures { λ r. ⌜ r ≡ placed (reading-of (now (words .entry))) result ⌝ }
+{
+    match result {
+        Ok(value) => Ok(value),
+        Err(fault) => Err(Refusal {
+            fault,
+            byte: words.byte(fault.place),
+        }),
+    }
+}
+
+// Obeys a line, and says which command it was.
+fn obey(heap: &mut LiveHeap, line: &[u8]) -> Result<Command, Refusal>
+    ensures answers { λ r. ⌜ r ≡ obeyed (meaning-of (now (heap .entry))) (now (line .entry)) ⌝ }
+    ensures leaves { λ _. ⌜ meaning-of (now (heap .exit)) ≡ heap-after (meaning-of (now (heap .entry))) (now (line .entry)) ⌝ }
+{
+    let words = Words::of(line)?;
+    let command = words.command()?;
+    at_word(perform(heap, command), &words)?;
+    Ok(command)
+}
+
+// The rows that grading fills.
+fn first_rows<G>(rows: &[Option<Row<G>>]) -> &[Option<Row<G>>]
+    requires { ⌜ 1024 ≤ length (now rows) ⌝ }
+    ensures { λ r. ⌜ now r ≡ take 1024 (now (rows .entry)) ⌝ }
+{
+    &rows[0..CELLS]
+}
+
+// Grades the heap into lent rows, and prints what was found.
+pub fn print_grades<S: Scheme, H: Heap>(
+    out: &mut Vec<u8>,
+    scheme: &S,
+    heap: &H,
+    rows: &mut [Option<Row<S::Grade>>],
+) -> Result<(), AllocError>
+where
+    S::Grade: Shown,
+    ensures { λ r.
+        let s = S·Scheme .model (now (scheme .entry)) in
+        let h = H·Heap .meaning (now (heap .entry)) in
+        ⌜ made r (λ _. Wrote (vec-items (now (out .entry))) (grading-text (Grade·Shown .text) s h (now (rows .entry))) (vec-items (now (out .exit)))) ⌝ }
+{
+    match grade(scheme, heap, rows) {
+        Ok(counts) => print_graded(out, counts, first_rows(rows)),
+        Err(fault) => print_refusal(out, Refusal { fault, byte: 0 }),
+    }
+}
+
+// Prints the answer to a command that was obeyed.
+fn print_done(out: &mut Vec<u8>, heap: &LiveHeap, command: Command) -> Result<(), AllocError>
+    ensures { λ r. ⌜ made r (λ _. Wrote (vec-items (now (out .entry))) (outcome-text (meaning-of (now (heap .entry))) (Ok command)) (vec-items (now (out .exit)))) ⌝ }
+{
+    match command {
+        Command::Grade { scheme: SchemeName::Strength } => print_grades(out, &ByStrength, heap, &mut [None; CELLS]),
+        Command::Grade { scheme: SchemeName::Bytes } => print_grades(out, &ByBytes, heap, &mut [None; CELLS]),
+        Command::Grade { scheme: SchemeName::Depth } => print_grades(out, &ByDepth, heap, &mut [None; CELLS]),
+        _ => write_text(out, b"ok"),
+    }
+}
+
+// Obeys a line, and puts its answer behind what `out` holds. A refused line leaves
+// the heap alone.
+pub fn answer(heap: &mut LiveHeap, line: &[u8], out: &mut Vec<u8>) -> Result<(), AllocError>
+    ensures writes { λ r. ⌜ made r (λ _. Wrote (vec-items (now (out .entry))) (answer-line (meaning-of (now (heap .entry))) (now (line .entry))) (vec-items (now (out .exit)))) ⌝ }
+    ensures leaves { λ _. ⌜ meaning-of (now (heap .exit)) ≡ heap-after (meaning-of (now (heap .entry))) (now (line .entry)) ⌝ }
+{
+    match obey(heap, line) {
+        Ok(command) => print_done(out, heap, command)?,
+        Err(refusal) => print_refusal(out, refusal)?,
+    }
+    write_byte(out, b'\n')?;
+    Ok(())
+}
