@@ -1,6 +1,6 @@
 -- What a line does, from what its words, its command and the heap answer.
 use Prim.Native.Nat.{ℕ}
-use mathlib.Core.Path.{_≡_, refl, sym, ap, _∙_}
+use mathlib.Core.Path.{_≡_, refl, sym, ap, ap₂, _∙_}
 use mathlib.Core.List.{List}
 use native.Mathlib.Omega.{arith}
 use Rattle.std.specs.declared.option.Option.{Option}
@@ -15,7 +15,7 @@ use Rattle.script.specs.declared.command.Command.{Command}
 use Rattle.script.specs.declared.command.Command.the-variants.{Put, Root, Link, Tie, Erase, Grade}
 use Rattle.script.specs.Words.{Reading}
 use Rattle.script.specs.Commands.{words-in, command-in}
-use Rattle.script.specs.Lines.{fault-of, after-command, after-if, placed, obeyed, heap-after}
+use Rattle.script.specs.Lines.{fault-of, after-command, after-if, placed, obeyed, heap-after, outcome-text}
 
 ok-err : {A E : Type 0} {r : Result A E} {x : A} {e : E} → r ≡ Ok x → r ≡ Err e → ⊥
 ok-err p q = let z : _≡_ {A = ℕ} 0 1 = cc in omega arith
@@ -59,3 +59,19 @@ module _ (h : Meaning) (line : List ℕ) (w : Reading) (c : Command)
           let refused : obeyed h line ≡ placed w (Err g) = obeyed-is ∙ (rw q) in
           let same = err-same (ap (placed w) (e ∙ ap (λ (o : Option Fault). answer o u) q)) (sym f) in
           (ap {B = Result Command Refusal} Err (sym same) ∙ sym refused, fault-leaves h c g q ∙ ap (after-if h) (sym refused))
+
+-- a command that prints more than ok changes nothing
+pub outcome-same : (h : Meaning) (r : Result Command Refusal) → outcome-text (after-if h r) r ≡ outcome-text h r
+outcome-same h (Ok (Put cell size)) = refl
+outcome-same h (Ok (Root number target)) = refl
+outcome-same h (Ok (Link number source target strength)) = refl
+outcome-same h (Ok (Tie number table key value)) = refl
+outcome-same h (Ok (Erase number)) = refl
+outcome-same h (Ok (Grade scheme)) = refl
+outcome-same h (Err r) = refl
+
+-- what is printed of the heap after the line is the answer to it
+pub outcome-printed : (h g : Meaning) (line : List ℕ) (r : Result Command Refusal) → r ≡ obeyed h line → g ≡ heap-after h line →
+  outcome-text g r ≡ outcome-text h (obeyed h line)
+outcome-printed h g line r e f =
+    ap₂ outcome-text f e ∙ outcome-same h (obeyed h line)

@@ -4,7 +4,6 @@ ghost use Prim.Native.Nat.{_≤_};
 ghost use lib.ListN.{length, take};
 ghost use Rattle.std.specs.Of.Vec.{vec-items};
 ghost use Rattle.std.specs.Vec.{made};
-ghost use Rattle.std.specs.declared.result.Result.the-variants.{Ok};
 ghost use Rattle.model.specs.Faults.{answer as answered};
 ghost use Rattle.live.specs.Live.{meaning-of};
 ghost use Rattle.script.specs.Tokens.{reading-of};
@@ -106,15 +105,18 @@ where
     }
 }
 
-// Prints the answer to a command that was obeyed.
-fn print_done(out: &mut Vec<u8>, heap: &LiveHeap, command: Command) -> Result<(), AllocError>
-    ensures { λ r. ⌜ made r (λ _. Wrote (vec-items (now (out .entry))) (outcome-text (meaning-of (now (heap .entry))) (Ok command)) (vec-items (now (out .exit)))) ⌝ }
+// Prints what came of a line. Grading changes nothing, so it is done here.
+fn print_outcome(out: &mut Vec<u8>, heap: &LiveHeap, outcome: Result<Command, Refusal>) -> Result<(), AllocError>
+    ensures { λ r. ⌜ made r (λ _. Wrote (vec-items (now (out .entry))) (outcome-text (meaning-of (now (heap .entry))) outcome) (vec-items (now (out .exit)))) ⌝ }
 {
-    match command {
-        Command::Grade { scheme: SchemeName::Strength } => print_grades(out, &ByStrength, heap, &mut [None; CELLS]),
-        Command::Grade { scheme: SchemeName::Bytes } => print_grades(out, &ByBytes, heap, &mut [None; CELLS]),
-        Command::Grade { scheme: SchemeName::Depth } => print_grades(out, &ByDepth, heap, &mut [None; CELLS]),
-        _ => write_text(out, b"ok"),
+    match outcome {
+        Ok(Command::Grade { scheme }) => match scheme {
+            SchemeName::Strength => print_grades(out, &ByStrength, heap, &mut [None; CELLS]),
+            SchemeName::Bytes => print_grades(out, &ByBytes, heap, &mut [None; CELLS]),
+            SchemeName::Depth => print_grades(out, &ByDepth, heap, &mut [None; CELLS]),
+        },
+        Ok(_) => write_text(out, b"ok"),
+        Err(refusal) => print_refusal(out, refusal),
     }
 }
 
@@ -124,10 +126,8 @@ pub fn answer(heap: &mut LiveHeap, line: &[u8], out: &mut Vec<u8>) -> Result<(),
     ensures writes { λ r. ⌜ made r (λ _. Wrote (vec-items (now (out .entry))) (answer-line (meaning-of (now (heap .entry))) (now (line .entry))) (vec-items (now (out .exit)))) ⌝ }
     ensures leaves { λ _. ⌜ meaning-of (now (heap .exit)) ≡ heap-after (meaning-of (now (heap .entry))) (now (line .entry)) ⌝ }
 {
-    match obey(heap, line) {
-        Ok(command) => print_done(out, heap, command)?,
-        Err(refusal) => print_refusal(out, refusal)?,
-    }
+    let outcome = obey(heap, line);
+    print_outcome(out, heap, outcome)?;
     write_byte(out, b'\n')?;
     Ok(())
 }
