@@ -1,5 +1,6 @@
 pub mod Chains
 pub mod Digits
+pub mod Feeding
 pub mod Fronts
 pub mod Gradings
 pub mod Obeying

@@ -4,3 +4,5 @@ pub mod Tokens
 pub mod Commands
 pub mod Answers
 pub mod Lines
+pub mod Scripts
+pub mod Held
