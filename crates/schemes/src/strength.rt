@@ -15,11 +15,7 @@ pub struct ByStrength;
 fn weaker_of(a: Strength, b: Strength) -> Strength
     ensures { λ r. ⌜ r ≡ weaker-of a b ⌝ }
 {
-    if a.number() < b.number() {
-        b
-    } else {
-        a
-    }
+    if a.number() < b.number() { b } else { a }
 }
 
 pub impl Scheme for ByStrength as ByStrengthScheme {

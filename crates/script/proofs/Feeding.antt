@@ -13,10 +13,10 @@ use Rattle.std.proofs.shelf.Lists.{take-all}
 use Rattle.std.proofs.shelf.Tests.{cases-lt}
 use Rattle.std.specs.declared.result.Result.{Result}
 use Rattle.model.specs.Meaning.{Meaning}
-use Rattle.script.specs.declared.command.Command.{Command}
-use Rattle.script.specs.declared.refusal.Refusal.{Refusal}
-use Rattle.script.specs.Words.{Reading}
-use Rattle.script.specs.Commands.{words-in, command-in, then}
+use Rattle.text.specs.declared.command.Command.{Command}
+use Rattle.text.specs.declared.refusal.Refusal.{Refusal}
+use Rattle.text.specs.Words.{Reading}
+use Rattle.text.specs.Commands.{words-in, command-in, then}
 use Rattle.script.specs.Lines.{obeyed, heap-after, answer-line, after-if, outcome-text, placed, fault-of}
 use Rattle.script.specs.Scripts.{State, lines-of, onto-first, answers, output, with-byte, after-byte, byte-prints, end-prints, line-ended, line-answer, Answers-each-line}
 use Rattle.model.specs.Faults.{answer}
@@ -25,10 +25,10 @@ use Rattle.model.specs.Faults.{answer}
 words-cap : (q : List ℕ) → words-in (take 81 q) ≡ words-in q
 words-cap q = elim (cases-lt 81 (length q)) [
   | inl l ↦ (
-    let e = length-take 81 q in
-    let a = lt-ltb 80 (length (take 81 q)) (omega arith) in
-    let b = lt-ltb 80 (length q) (omega arith) in
-    rw (a, b))
+      let e = length-take 81 q in
+      let a = lt-ltb 80 (length (take 81 q)) (omega arith) in
+      let b = lt-ltb 80 (length q) (omega arith) in
+      rw (a, b))
   | inr l ↦ ap words-in (take-all 81 q l)
 ]
 
@@ -51,15 +51,15 @@ midst h q = record { heap = h; line = take 81 q }
 kept-cap : (h : Meaning) (q : List ℕ) (b : ℕ) → with-byte (midst h q) b ≡ midst h (q ++ (b ∷ []))
 kept-cap h q b = ap (λ (l : List ℕ). record { heap = h; line = l }) (elim (cases-lt (length q) 81) [
   | inl l ↦ (
-    let e = take-all 81 q (omega arith) in
-    let k = length-append q (b ∷ []) in
-    let f = take-all 81 (q ++ (b ∷ [])) (omega arith) in
-    let t = lt-ltb (length q) 81 l in
-    rw (e, t, f))
+      let e = take-all 81 q (omega arith) in
+      let k = length-append q (b ∷ []) in
+      let f = take-all 81 (q ++ (b ∷ [])) (omega arith) in
+      let t = lt-ltb (length q) 81 l in
+      rw (e, t, f))
   | inr l ↦ (
-    let e = length-take 81 q in
-    let t = le-ltb (length (take 81 q)) 81 (omega arith) in
-    rw t (sym (take-append-le 81 q (b ∷ []) l)))
+      let e = length-take 81 q in
+      let t = le-ltb (length (take 81 q)) 81 (omega arith) in
+      rw t (sym (take-append-le 81 q (b ∷ []) l)))
 ])
 
 -- lines the first of which began with q
@@ -83,21 +83,21 @@ ends : (h : Meaning) (q : List ℕ) → end-prints (midst h q) ≡ answers h (be
 unfolding answers
 ends h q = elim (cases-lt 0 (length q)) [
   | inl l ↦ (
-    let e = length-take 81 q in
-    let s = ne-eqb (length (take 81 q)) 0 (λ z. omega arith) in
-    let t = ne-eqb (length q) 0 (λ z. omega arith) in
-    rw (s, t) (answer-cap h q ∙ sym (append-nil (answer-line h q))))
+      let e = length-take 81 q in
+      let s = ne-eqb (length (take 81 q)) 0 (λ z. omega arith) in
+      let t = ne-eqb (length q) 0 (λ z. omega arith) in
+      rw (s, t) (answer-cap h q ∙ sym (append-nil (answer-line h q))))
   | inr l ↦ (
-    let e = length-take 81 q in
-    let s = eq-eqb (length (take 81 q)) 0 (omega arith) in
-    let t = eq-eqb (length q) 0 (omega arith) in
-    rw (s, t))
+      let e = length-take 81 q in
+      let s = eq-eqb (length (take 81 q)) 0 (omega arith) in
+      let t = eq-eqb (length q) 0 (omega arith) in
+      rw (s, t))
 ]
 
 -- a byte that ends the line, and any other
 feeds-end : (h : Meaning) (q bs : List ℕ) →
-  output (midst (heap-after h (take 81 q)) []) bs ≡ answers (heap-after h (take 81 q)) (begun [] (lines-of bs)) →
-  line-answer (midst h q) ++ output (line-ended (midst h q)) bs ≡ answers h (begun q ([] ∷ lines-of bs))
+    output (midst (heap-after h (take 81 q)) []) bs ≡ answers (heap-after h (take 81 q)) (begun [] (lines-of bs)) →
+    line-answer (midst h q) ++ output (line-ended (midst h q)) bs ≡ answers h (begun q ([] ∷ lines-of bs))
 unfolding answers
 feeds-end h q bs ih =
     ap₂ (λ (x : List ℕ) (y : List ℕ). x ++ y)
@@ -111,10 +111,10 @@ feeds h q (b ∷ bs) =
     go (eqb b 10) (feeds (heap-after h (take 81 q)) [] bs) (feeds h (q ++ (b ∷ [])) bs)
   where
     go : (t : Bool) →
-      output (midst (heap-after h (take 81 q)) []) bs ≡ answers (heap-after h (take 81 q)) (begun [] (lines-of bs)) →
-      output (midst h (q ++ (b ∷ []))) bs ≡ answers h (begun (q ++ (b ∷ [])) (lines-of bs)) →
-      cond t (line-answer (midst h q)) [] ++ output (cond t (line-ended (midst h q)) (with-byte (midst h q) b)) bs
-      ≡ answers h (begun q (cond t ([] ∷ lines-of bs) (onto-first b (lines-of bs))))
+        output (midst (heap-after h (take 81 q)) []) bs ≡ answers (heap-after h (take 81 q)) (begun [] (lines-of bs)) →
+        output (midst h (q ++ (b ∷ []))) bs ≡ answers h (begun (q ++ (b ∷ [])) (lines-of bs)) →
+        cond t (line-answer (midst h q)) [] ++ output (cond t (line-ended (midst h q)) (with-byte (midst h q) b)) bs
+        ≡ answers h (begun q (cond t ([] ∷ lines-of bs) (onto-first b (lines-of bs))))
     go true i j = feeds-end h q bs i
     go false i j =
         ap (λ (st : State). output st bs) (kept-cap h q b) ∙ (j ∙ ap (answers h) (begun-more q b (lines-of bs)))

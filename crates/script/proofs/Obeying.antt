@@ -10,11 +10,11 @@ use Rattle.std.specs.declared.result.Result.the-variants.{Ok, Err}
 use Rattle.model.specs.declared.fault.Fault.{Fault}
 use Rattle.model.specs.Faults.{answer}
 use Rattle.model.specs.Meaning.{Meaning}
-use Rattle.script.specs.declared.refusal.Refusal.{Refusal}
-use Rattle.script.specs.declared.command.Command.{Command}
-use Rattle.script.specs.declared.command.Command.the-variants.{Put, Root, Link, Tie, Erase, Grade}
-use Rattle.script.specs.Words.{Reading}
-use Rattle.script.specs.Commands.{words-in, command-in}
+use Rattle.text.specs.declared.refusal.Refusal.{Refusal}
+use Rattle.text.specs.declared.command.Command.{Command}
+use Rattle.text.specs.declared.command.Command.the-variants.{Put, Root, Link, Tie, Erase, Grade}
+use Rattle.text.specs.Words.{Reading}
+use Rattle.text.specs.Commands.{words-in, command-in}
 use Rattle.script.specs.Lines.{fault-of, after-command, after-if, placed, obeyed, heap-after, outcome-text}
 
 ok-err : {A E : Type 0} {r : Result A E} {x : A} {e : E} → r ≡ Ok x → r ≡ Err e → ⊥
@@ -33,13 +33,12 @@ fault-leaves h (Erase number) f e = rw e
 fault-leaves h (Grade scheme) f e = refl
 
 module _ (h : Meaning) (line : List ℕ) (w : Reading) (c : Command)
-  (k : Ok w ≡ words-in line) (m : Ok c ≡ command-in w) where
-
+    (k : Ok w ≡ words-in line) (m : Ok c ≡ command-in w) where
   obeyed-is : obeyed h line ≡ placed w (answer (fault-of h c) c)
   obeyed-is = rw (sym k, sym m)
 
   pub line-obeyed : (u v : Unit {0}) (p : Result (Unit {0}) Fault) → p ≡ answer (fault-of h c) u → Ok v ≡ placed w p →
-    (Ok c ≡ obeyed h line) × (after-command h c ≡ heap-after h line)
+      (Ok c ≡ obeyed h line) × (after-command h c ≡ heap-after h line)
   line-obeyed u v p e f = go (fault-of h c) refl
     where
       done : fault-of h c ≡ None → obeyed h line ≡ Ok c
@@ -50,7 +49,7 @@ module _ (h : Meaning) (line : List ℕ) (w : Reading) (c : Command)
       go (Some g) q = absurd (ok-err (sym f) (ap (placed w) (e ∙ ap (λ (o : Option Fault). answer o u) q)))
 
   pub line-refused : (u : Unit {0}) (r : Refusal) (p : Result (Unit {0}) Fault) → p ≡ answer (fault-of h c) u → Err r ≡ placed w p →
-    (Err r ≡ obeyed h line) × (after-command h c ≡ heap-after h line)
+      (Err r ≡ obeyed h line) × (after-command h c ≡ heap-after h line)
   line-refused u r p e f = go (fault-of h c) refl
     where
       go : (o : Option Fault) → fault-of h c ≡ o → (Err r ≡ obeyed h line) × (after-command h c ≡ heap-after h line)
@@ -72,6 +71,6 @@ outcome-same h (Err r) = refl
 
 -- what is printed of the heap after the line is the answer to it
 pub outcome-printed : (h g : Meaning) (line : List ℕ) (r : Result Command Refusal) → r ≡ obeyed h line → g ≡ heap-after h line →
-  outcome-text g r ≡ outcome-text h (obeyed h line)
+    outcome-text g r ≡ outcome-text h (obeyed h line)
 outcome-printed h g line r e f =
     ap₂ outcome-text f e ∙ outcome-same h (obeyed h line)

@@ -10,12 +10,13 @@ use Rattle.std.specs.declared.option.Option.the-variants.{Some, None}
 use Rattle.std.proofs.shelf.Lists.{getD-default, take-all}
 use Rattle.model.specs.declared.row.Row.{Row}
 use Rattle.model.specs.Settling.{Rows}
-use Rattle.script.specs.Answers.{Wrote, row-text-if, rows-text}
-use Rattle.script.proofs.Spelling.{and-then, as-text}
+use Rattle.text.specs.Writing.{Wrote}
+use Rattle.script.specs.Answers.{row-text-if, rows-text}
+use Rattle.text.proofs.Spelling.{and-then, as-text}
 
 module _ {G : Type 0} (show : G → List ℕ) where
   rows-more : (c : ℕ) (xs : Rows G) (i : ℕ) → i < length xs →
-    rows-text show c (take (suc i) xs) ≡ rows-text show c (take i xs) ++ row-text-if show (c + i) (getD xs i None)
+      rows-text show c (take (suc i) xs) ≡ rows-text show c (take i xs) ++ row-text-if show (c + i) (getD xs i None)
   unfolding rows-text
   rows-more c [] i l = absurd (omega arith)
   rows-more c (x ∷ xs) zero l =
@@ -31,8 +32,8 @@ module _ {G : Type 0} (show : G → List ℕ) where
 
     -- row i behind the rows before it
     pub row-more : {a b c : List ℕ} (o : Option (Row G)) → o ≡ getD xs i o →
-      Wrote a (rows-text show 0 (take i xs)) b → Wrote b (row-text-if show i o) c →
-      Wrote a (rows-text show 0 (take (i + 1) xs)) c
+        Wrote a (rows-text show 0 (take i xs)) b → Wrote b (row-text-if show i o) c →
+        Wrote a (rows-text show 0 (take (i + 1) xs)) c
     row-more o e v w =
         let f : getD xs i None ≡ o = getD-default xs i None o l ∙ sym e in
         as-text (sym (more ∙ ap (λ (x : Option (Row G)). rows-text show 0 (take i xs) ++ row-text-if show i x) f)) (and-then v w)
@@ -42,5 +43,5 @@ module _ {G : Type 0} (show : G → List ℕ) where
   rows-none a = record { is = sym (append-nil a) }
 
   pub rows-all : {a b : List ℕ} (xs : Rows G) (i : ℕ) → length xs ≤ i →
-    Wrote a (rows-text show 0 (take i xs)) b → Wrote a (rows-text show 0 xs) b
+      Wrote a (rows-text show 0 (take i xs)) b → Wrote a (rows-text show 0 xs) b
   rows-all xs i l w = as-text (ap (rows-text show 0) (take-all i xs l)) w

@@ -1,6 +1,5 @@
 -- Answers: the bytes that are printed for a line.
 use Prim.Native.Nat.{ℕ, _+_}
-use mathlib.Core.Path.{_≡_}
 use mathlib.Core.List.{List, [], _∷_, _++_}
 use lib.Chars.{codes}
 use Rattle.std.specs.Written.{decimal}
@@ -13,11 +12,7 @@ use Rattle.model.specs.Faults.{number-of, layer-of, letter-of}
 use Rattle.model.specs.Settling.{Rows}
 use Rattle.schemes.specs.declared.depth.Depth.{Depth}
 use Rattle.model.specs.Strengths.{strength-number}
-use Rattle.script.specs.declared.refusal.Refusal.{Refusal}
-
--- `after` is `before` with the text behind it
-pub record Wrote (before text after : List ℕ) : Type 0 where
-  pub is : after ≡ before ++ text
+use Rattle.text.specs.declared.refusal.Refusal.{Refusal}
 
 -- a strength as its number
 abbrev pub strength-text : Strength → List ℕ

@@ -16,13 +16,13 @@ use Rattle.model.specs.Calls.{put-fault, put-after, root-fault, root-after, lin
 use Rattle.schemes.specs.Strength.{by-strength}
 use Rattle.schemes.specs.Bytes.{by-bytes}
 use Rattle.schemes.specs.Depth.{by-depth}
-use Rattle.script.specs.declared.refusal.Refusal.{Refusal}
-use Rattle.script.specs.declared.command.Command.{Command}
-use Rattle.script.specs.declared.command.Command.the-variants.{Put, Root, Link, Tie, Erase, Grade}
-use Rattle.script.specs.declared.command.SchemeName.{SchemeName}
-use Rattle.script.specs.declared.command.SchemeName.the-variants.{Strength, Bytes, Depth}
-use Rattle.script.specs.Words.{Reading, byte-of}
-use Rattle.script.specs.Commands.{words-in, command-in, then}
+use Rattle.text.specs.declared.refusal.Refusal.{Refusal}
+use Rattle.text.specs.declared.command.Command.{Command}
+use Rattle.text.specs.declared.command.Command.the-variants.{Put, Root, Link, Tie, Erase, Grade}
+use Rattle.text.specs.declared.command.SchemeName.{SchemeName}
+use Rattle.text.specs.declared.command.SchemeName.the-variants.{Strength, Bytes, Depth}
+use Rattle.text.specs.Words.{Reading, byte-of}
+use Rattle.text.specs.Commands.{words-in, command-in, then}
 use Rattle.script.specs.Answers.{refusal-text, graded-text, strength-text, bytes-text, depth-text}
 
 -- the fault of a command, if the heap finds one; a grading has memory enough

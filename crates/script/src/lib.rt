@@ -1,9 +1,4 @@
-pub mod command;
 pub mod line;
-pub mod number;
 pub mod print;
-pub mod refusal;
 pub mod script;
 pub mod show;
-pub mod words;
-pub mod write;

@@ -6,15 +6,9 @@ ghost use Rattle.std.specs.Of.Vec.{vec-items};
 ghost use Rattle.std.specs.Vec.{made};
 ghost use Rattle.model.specs.Faults.{answer as answered};
 ghost use Rattle.live.specs.Live.{meaning-of};
-ghost use Rattle.script.specs.Tokens.{reading-of};
-ghost use Rattle.script.specs.Answers.{Wrote};
+ghost use Rattle.text.specs.Tokens.{reading-of};
+ghost use Rattle.text.specs.Writing.{Wrote};
 ghost use Rattle.script.specs.Lines.{fault-of, after-command, placed, obeyed, heap-after, grading-text, outcome-text, answer-line};
-use crate::command::Command;
-use crate::command::SchemeName;
-use crate::refusal::Refusal;
-use crate::words::Words;
-use crate::write::write_byte;
-use crate::write::write_text;
 use crate::print::print_graded;
 use crate::print::print_refusal;
 use crate::show::BytesShown;
@@ -35,6 +29,12 @@ use schemes::depth::ByDepthScheme;
 use schemes::strength::ByStrength;
 use schemes::strength::ByStrengthScheme;
 use std::alloc::AllocError;
+use text::command::Command;
+use text::command::SchemeName;
+use text::refusal::Refusal;
+use text::words::Words;
+use text::write::write_byte;
+use text::write::write_text;
 
 const CELLS: usize = 1024;
 
@@ -46,8 +46,18 @@ fn perform(heap: &mut LiveHeap, command: Command) -> Result<(), Fault>
     match command {
         Command::Put { cell, size } => heap.put(cell, size),
         Command::Root { number, target } => heap.root(number, target),
-        Command::Link { number, source, target, strength } => heap.link(number, source, target, strength),
-        Command::Tie { number, table, key, value } => heap.tie(number, table, key, value),
+        Command::Link {
+            number,
+            source,
+            target,
+            strength,
+        } => heap.link(number, source, target, strength),
+        Command::Tie {
+            number,
+            table,
+            key,
+            value,
+        } => heap.tie(number, table, key, value),
         Command::Erase { number } => heap.erase(number),
         Command::Grade { .. } => Ok(()),
     }
@@ -106,7 +116,11 @@ where
 }
 
 // Prints what came of a line. Grading changes nothing, so it is done here.
-fn print_outcome(out: &mut Vec<u8>, heap: &LiveHeap, outcome: Result<Command, Refusal>) -> Result<(), AllocError>
+fn print_outcome(
+    out: &mut Vec<u8>,
+    heap: &LiveHeap,
+    outcome: Result<Command, Refusal>,
+) -> Result<(), AllocError>
     ensures { λ r. ⌜ made r (λ _. Wrote (vec-items (now (out .entry))) (outcome-text (meaning-of (now (heap .entry))) outcome) (vec-items (now (out .exit)))) ⌝ }
 {
     match outcome {

@@ -1,15 +1,16 @@
 // The answers as they are printed, without the byte that ends the line.
 ghost use Rattle.std.specs.Of.Vec.{vec-items};
 ghost use Rattle.std.specs.Vec.{made};
-ghost use Rattle.script.specs.Answers.{Wrote, refusal-text, row-text-if, rows-text, graded-text};
-use crate::refusal::Refusal;
+ghost use Rattle.text.specs.Writing.{Wrote};
+ghost use Rattle.script.specs.Answers.{refusal-text, row-text-if, rows-text, graded-text};
 use crate::show::Shown;
-use crate::write::write_byte;
-use crate::write::write_number;
-use crate::write::write_text;
 use model::row::Counts;
 use model::row::Row;
 use std::alloc::AllocError;
+use text::refusal::Refusal;
+use text::write::write_byte;
+use text::write::write_number;
+use text::write::write_text;
 
 pub fn print_refusal(out: &mut Vec<u8>, refusal: Refusal) -> Result<(), AllocError>
     ensures { λ r. ⌜ made r (λ _. Wrote (vec-items (now (out .entry))) (refusal-text refusal) (vec-items (now (out .exit)))) ⌝ }
@@ -51,7 +52,11 @@ fn print_rows<G: Shown>(out: &mut Vec<u8>, rows: &[Option<Row<G>>]) -> Result<()
 }
 
 // What grading found: both counts, and the settled cells.
-pub fn print_graded<G: Shown>(out: &mut Vec<u8>, counts: Counts, rows: &[Option<Row<G>>]) -> Result<(), AllocError>
+pub fn print_graded<G: Shown>(
+    out: &mut Vec<u8>,
+    counts: Counts,
+    rows: &[Option<Row<G>>],
+) -> Result<(), AllocError>
     ensures { λ r. ⌜ made r (λ _. Wrote (vec-items (now (out .entry))) (graded-text (G·Shown .text) counts (now (rows .entry))) (vec-items (now (out .exit)))) ⌝ }
 {
     write_text(out, b"ok ")?;

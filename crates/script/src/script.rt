@@ -4,7 +4,7 @@ ghost use mathlib.Core.List.{[]};
 ghost use Rattle.std.specs.Of.Vec.{vec-items};
 ghost use Rattle.std.specs.Vec.{made};
 ghost use Rattle.model.specs.Calls.{empty-heap};
-ghost use Rattle.script.specs.Answers.{Wrote};
+ghost use Rattle.text.specs.Writing.{Wrote};
 ghost use Rattle.script.specs.Scripts.{with-byte, line-ended, line-answer, after-byte, byte-prints, end-prints, Answers-each-line};
 ghost use Rattle.script.specs.Held.{state-of};
 use crate::line::answer;

@@ -3,12 +3,13 @@ ghost use mathlib.Core.List.{List};
 ghost use Prim.Native.Nat.{ℕ};
 ghost use Rattle.std.specs.Of.Vec.{vec-items};
 ghost use Rattle.std.specs.Vec.{made};
-ghost use Rattle.script.specs.Answers.{Wrote, strength-text, bytes-text, depth-text};
-use crate::write::write_byte;
-use crate::write::write_number;
+ghost use Rattle.text.specs.Writing.{Wrote};
+ghost use Rattle.script.specs.Answers.{strength-text, bytes-text, depth-text};
 use model::record::Strength;
 use schemes::depth::Depth;
 use std::alloc::AllocError;
+use text::write::write_byte;
+use text::write::write_number;
 
 pub trait Shown: Copy {
     ghost text: { Self → List ℕ };

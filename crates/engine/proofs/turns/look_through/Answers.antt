@@ -24,7 +24,7 @@ loop-number-again g c =
       omega (arith, up-to-one (looked .result) (at .count) (c .if-look-at .count) (counted g c)),
       cc (looked .ensures .after, at .inv .1),
       tally-turn s h (c .args .just) (at .rows) (looked .last .rows) (at .number) (at .count) (c .if-look-at .count) _
-        (looked .result) (omega arith) (looked .ensures .after) (looked .ensures .counted) (counted g c) (at .inv .2),
+          (looked .result) (omega arith) (looked .ensures .after) (looked .ensures .counted) (counted g c) (at .inv .2),
     )
 
 pub returns : need.returns

@@ -1,4 +1,5 @@
-use Rattle.script.proofs.Spelling.{and-then, as-text, refusal-pieces}
+use Rattle.text.proofs.Spelling.{and-then, as-text}
+use Rattle.script.proofs.Refusals.{refusal-pieces}
 use Rattle.script.proofs.print.print_refusal.Needs as need
 
 pub returns : need.returns

@@ -1,6 +1,6 @@
 use mathlib.Core.Path.{sym, ap}
 use Rattle.script.specs.Answers.{row-text-if}
-use Rattle.script.proofs.Spelling.{and-then, as-text}
+use Rattle.text.proofs.Spelling.{and-then, as-text}
 use Rattle.script.proofs.print.print_row.Needs as need
 
 pub returns : need.returns

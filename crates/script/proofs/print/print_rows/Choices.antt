@@ -1,6 +1,7 @@
 use lib.ListN.{take}
 use Rattle.std.specs.Of.Vec.{vec-items}
-use Rattle.script.specs.Answers.{Wrote, rows-text}
+use Rattle.text.specs.Writing.{Wrote}
+use Rattle.script.specs.Answers.{rows-text}
 use Rattle.script.proofs.print.print_rows.Given as given
 
 abbrev pub Inv-loop-cell : given.InvT-loop-cell

@@ -1,4 +1,4 @@
-use Rattle.script.proofs.Spelling.{and-then}
+use Rattle.text.proofs.Spelling.{and-then}
 use Rattle.script.proofs.show.DepthShown.write.Needs as need
 
 pub returns : need.returns

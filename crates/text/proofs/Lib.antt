@@ -1,0 +1,4 @@
+pub mod Chains
+pub mod Digits
+pub mod Fronts
+pub mod Spelling

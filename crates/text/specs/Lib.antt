@@ -1,0 +1,5 @@
+pub mod Words
+pub mod Numbers
+pub mod Tokens
+pub mod Commands
+pub mod Writing

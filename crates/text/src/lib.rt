@@ -1,0 +1,5 @@
+pub mod command;
+pub mod number;
+pub mod refusal;
+pub mod words;
+pub mod write;
