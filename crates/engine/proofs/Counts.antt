@@ -67,7 +67,8 @@ module _ (f : Record → ℕ) (h : Meaning) where
   abbrev count-rest : ℕ → ℕ
   count-rest i = count-over f (drop i (h .records))
 
-  count-more : (i : ℕ) → i < length (h .records) → count-rest i ≡ count-at f (record-at h i) + count-rest (i + 1)
+  count-more : (i : ℕ) → i < length (h .records)
+      → count-rest i ≡ count-at f (record-at h i) + count-rest (i + 1)
   unfolding count-over
   count-more i l = at-drop-more (λ xs. count-over f xs) (h .records) i None l
 
@@ -82,14 +83,19 @@ one-where false u n = refl
 -- a pass that weighs what was not counted before counts every record that is ready
 module _ {G : Type 0} (s : Scheme G) (law : Lawful s) (h : Meaning) (wf : Well-formed h)
     (just : Option ℕ) (base : Rows G) (wide : length base ≡ 1024) (was : Record → ℕ)
-    (each : (rec : Record) → cond (wakes just rec) (ready-one base rec) 0 + was rec ≡ ready-one base rec) where
+    (each : (rec : Record)
+    → cond (wakes just rec) (ready-one base rec) 0 + was rec ≡ ready-one base rec) where
   each-at : (i : ℕ) (x : Option Record) (rows : Rows G) → settled-rows rows ≡ base
       → cond (visited s h just i x rows) 1 0 + count-at was x ≡ count-at (ready-one base) x
   each-at i None rows e = refl
   each-at i (Some rec) rows e =
-      let f : isSome (gives s h rows i rec) ≡ ready base rec =
-      ap (λ (z : Rows G). isSome (given s z (size-for h rec) i rec)) e ∙ given-ready s base (size-for h rec) i rec in
-      one-where (wakes just rec) (isSome (gives s h rows i rec)) (was rec) ∙ ap (λ (t : Bool). cond (wakes just rec) (cond t 1 0) 0 + was rec) f ∙ each rec
+      let now : Bool = isSome (gives s h rows i rec) in
+      let f : now ≡ ready base rec =
+      ap (λ (z : Rows G). isSome (given s z (size-for h rec) i rec)) e
+      ∙ given-ready s base (size-for h rec) i rec in
+      one-where (wakes just rec) now (was rec)
+      ∙ ap (λ (t : Bool). cond (wakes just rec) (cond t 1 0) 0 + was rec) f
+      ∙ each rec
 
   pub tally-count : (m i : ℕ) (rows : Rows G) → i + m ≡ length (h .records) → Fine s h just base i rows
       → count-from s h just i rows + count-rest was h i ≡ count-rest (ready-one base) h i

@@ -1,7 +1,7 @@
 -- The least of a set of offers, by grade, then cell, then record.
-use Prim.Native.Nat.{ℕ, zero, suc, _+_, _<_, _≤_}
-use mathlib.Core.Path.{_≡_, refl, sym, ap, subst, _∙_}
-use mathlib.Core.List.{List, [], _∷_}
+use Prim.Native.Nat.{ℕ, zero, suc, _+_}
+use mathlib.Core.Path.{_≡_, refl, ap, subst, _∙_}
+use mathlib.Core.List.{[], _∷_}
 use mathlib.Core.Logic.{_⊎_, inl, inr}
 use native.Mathlib.Omega.{arith}
 use lib.ListN.{getD}
@@ -13,7 +13,7 @@ use Rattle.model.specs.declared.row.Offer.{Offer}
 use Rattle.model.specs.Schemes.{Scheme, Lawful}
 use Rattle.model.specs.Meaning.{Meaning, record-at}
 use Rattle.model.specs.Settling.{Rows, better-of, offer, best, filled}
-use Rattle.model.proofs.Filled.{In, none-some, some-same, in-filled, from-filled}
+use Rattle.model.proofs.Filled.{none-some, some-same, in-filled, from-filled}
 use Rattle.model.proofs.Choice.{better-sound, best-sound, best-least}
 use Rattle.model.proofs.Order.{First, first-refl, first-trans, first-both, first-both-of, best-first}
 use Rattle.engine.specs.Working.{waiting, scan, chosen}
@@ -27,6 +27,10 @@ pub record Least {G : Type 0} (s : Scheme G) (P : Offer G → Type 0) (x : Optio
 abbrev pub Offers : {G : Type 0} → Scheme G → Meaning → Rows G → Offer G → Type 0
 Offers s h rows a =
     (r : ℕ) × (rec : Record) × (record-at h r ≡ Some rec) × (offer s h rows r rec ≡ Some a)
+
+-- .. to cell n
+abbrev pub Offers-to : {G : Type 0} → Scheme G → Meaning → Rows G → ℕ → Offer G → Type 0
+Offers-to s h rows n a = Offers s h rows a × (a .cell ≡ n)
 
 -- the offer a waits in one of the rows, which are those of cell i and after
 abbrev pub Waits : {G : Type 0} → ℕ → Rows G → Offer G → Type 0
@@ -129,7 +133,8 @@ module _ {G : Type 0} (s : Scheme G) (law : Lawful s) where
     pub least-best : Least s (Offers s h rows) of-all
     least-best = record { held = best-held; first = best-before }
 
-  at-place : (i j : ℕ) (x : Option (Row G)) (a : Offer G) → i ≡ j → waiting i x ≡ Some a → waiting j x ≡ Some a
+  at-place : (i j : ℕ) (x : Option (Row G)) (a : Offer G) → i ≡ j
+      → waiting i x ≡ Some a → waiting j x ≡ Some a
   at-place i j x a e f = rw e at f
 
   -- the offer that the engine chooses is the least of those that wait
@@ -154,7 +159,8 @@ module _ {G : Type 0} (s : Scheme G) (law : Lawful s) where
       to a (inl (inr u)) = inr (0, at-place i (i + 0) x a (omega arith) u)
       to a (inr (n, u)) = inr (suc n, at-place (i + 1 + n) (i + suc n) (getD xs n None) a (omega arith) u)
 
-      from′ : (a : Offer G) (n : ℕ) → waiting (i + n) (getD (x ∷ xs) n None) ≡ Some a → Q a ⊎ Waits (i + 1) xs a
+      from′ : (a : Offer G) (n : ℕ) → waiting (i + n) (getD (x ∷ xs) n None) ≡ Some a
+          → Q a ⊎ Waits (i + 1) xs a
       from′ a zero u = inl (inr (at-place (i + 0) i x a (omega arith) u))
       from′ a (suc n) u = inr (n, at-place (i + suc n) (i + 1 + n) (getD xs n None) a (omega arith) u)
 

@@ -106,14 +106,14 @@ module _ {G : Type 0} (s : Scheme G) where
     unfolding run
     run-suc m fuel w e = rw e
 
-    pub turn-run : (rows rows′ : Rows G) (t n k m : ℕ) (x : Work G) → t < m
-        → rows′ ≡ turned s h t rows (chosen s rows) → Some k ≡ turn-count s h t rows (chosen s rows)
+    pub turn-run : (rows rows′ : Rows G) (t n k m : ℕ) (y : Option ℕ) (x : Work G) → t < m
+        → rows′ ≡ turned s h t rows (chosen s rows) → y ≡ turn-count s h t rows (chosen s rows) → y ≡ Some k
         → run s h (m - t) (record { rows = rows; turn = t; count = n }) ≡ x
         → run s h (m - (t + 1)) (record { rows = rows′; turn = t + 1; count = n + k }) ≡ x
-    turn-run rows rows′ t n k m x l e f q =
+    turn-run rows rows′ t n k m y x l e f d q =
         let w : Work G = record { rows = rows; turn = t; count = n } in
         let r : round s h w ≡ round-by w rows′ (Some k) =
-        ap₂ (λ (y : Rows G) (z : Option ℕ). round-by w y z) (sym e) (sym f) in
+        ap₂ (λ (y : Rows G) (z : Option ℕ). round-by w y z) (sym e) (sym f ∙ d) in
         ap (run s h (m - (t + 1))) (sym r) ∙ sym (run-suc (m - t) (m - (t + 1)) w (omega arith)) ∙ q
 
     run-still : (fuel : ℕ) (w : Work G) → chosen s (w .rows) ≡ None → run s h fuel w ≡ w
@@ -121,16 +121,16 @@ module _ {G : Type 0} (s : Scheme G) where
     run-still zero w e = refl
     run-still (suc fuel) w e = ap (run s h fuel) (ap (round-at s h w) e) ∙ run-still fuel w e
 
-    stopped : (rows : Rows G) (t : ℕ) (x : Option (Offer G)) → None ≡ turn-count s h t rows x → x ≡ None
+    stopped : (rows : Rows G) (t : ℕ) (x : Option (Offer G)) → turn-count s h t rows x ≡ None → x ≡ None
     stopped rows t None e = refl
-    stopped rows t (Some o) e = absurd (none-some (sym e) refl)
+    stopped rows t (Some o) e = absurd (none-some e refl)
 
-    pub turn-stop : (rows rows′ : Rows G) (t n fuel : ℕ) (x : Work G)
-        → rows′ ≡ turned s h t rows (chosen s rows) → None ≡ turn-count s h t rows (chosen s rows)
+    pub turn-stop : (rows rows′ : Rows G) (t n fuel : ℕ) (y : Option ℕ) (x : Work G)
+        → rows′ ≡ turned s h t rows (chosen s rows) → y ≡ turn-count s h t rows (chosen s rows) → y ≡ None
         → run s h fuel (record { rows = rows; turn = t; count = n }) ≡ x
         → (rows′ ≡ x .rows) × (t ≡ x .turn) × (n ≡ x .count)
-    turn-stop rows rows′ t n fuel x e f q =
-        let z = stopped rows t (chosen s rows) f in
+    turn-stop rows rows′ t n fuel y x e f d q =
+        let z = stopped rows t (chosen s rows) (sym f ∙ d) in
         let a : rows′ ≡ rows = e ∙ ap (turned s h t rows) z in
         let b = sym (run-still fuel (record { rows = rows; turn = t; count = n }) z) ∙ q in
         (a ∙ ap (λ (w : Work G). w .rows) b, ap (λ (w : Work G). w .turn) b, ap (λ (w : Work G). w .count) b)

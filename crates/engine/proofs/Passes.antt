@@ -1,5 +1,5 @@
 -- A pass over the records: what waits at each cell is the least of the offers weighed so far.
-use Prim.Native.Nat.{ℕ, zero, suc, _+_, _<_, _≤_}
+use Prim.Native.Nat.{ℕ, zero, suc, _+_, _<_}
 use mathlib.Core.Path.{_≡_, refl, sym, ap, subst, _∙_}
 use mathlib.Core.Bool.{Bool, true, false, cond}
 use mathlib.Core.Logic.{_⊎_, inl, inr}
@@ -19,7 +19,7 @@ use Rattle.model.specs.Settling.{Rows, target, given, earlier, better-of, size-
 use Rattle.model.proofs.Filled.{none-some, some-same}
 use Rattle.model.proofs.Formed.{cell-below}
 use Rattle.model.proofs.Knuth.{offer-parts, target-filled}
-use Rattle.engine.specs.Working.{settled-row, settled-rows, row-offer, waiting, waiting-row, proposed, propose, gives, weighed-by, wakes, visit}
+use Rattle.engine.specs.Working.{settled-row, settled-rows, held-offer, waiting, row-waiting, proposed, propose, gives, weighed-by, wakes, visit}
 use Rattle.engine.proofs.Loops.{settled-at, rows-from, after-visit, pass-more, pass-all}
 use Rattle.engine.proofs.Least.{Least, least-iff, least-join, least-self}
 
@@ -38,17 +38,18 @@ abbrev pub Passed-to : {G : Type 0} → Scheme G → Meaning → Option ℕ → 
 Passed-to s h just base j n a = Passed s h just base j a × (a .cell ≡ n)
 
 -- the settled rows are `base`, and at each cell the least of the offers so far waits
-pub record Fine {G : Type 0} (s : Scheme G) (h : Meaning) (just : Option ℕ) (base : Rows G) (j : ℕ) (rows : Rows G) : Type 0 where
+pub record Fine {G : Type 0} (s : Scheme G) (h : Meaning) (just : Option ℕ) (base : Rows G)
+    (j : ℕ) (rows : Rows G) : Type 0 where
   pub settled : settled-rows rows ≡ base
   pub least : (n : ℕ) → Least s (Passed-to s h just base j n) (waiting n (getD rows n None))
 
 -- an offer settles nothing, the better offer waits after it, and a settled row stands
 module _ {G : Type 0} (s : Scheme G) (o : Offer G) where
   abbrev beaten : Row G → Bool
-  beaten row = earlier (s .rank (o .grade) (row .grade)) o (row-offer (o .cell) row)
+  beaten row = earlier (s .rank (o .grade) (row .grade)) o (held-offer (o .cell) row)
 
   abbrev after : Bool → Bool → Row G → Option (Row G)
-  after t u row = cond t (Some row) (cond u (Some (waiting-row o)) (Some row))
+  after t u row = cond t (Some row) (cond u (Some (row-waiting o)) (Some row))
 
   proposed-row : (z : Option (Row G)) → settled-row (proposed s o z) ≡ settled-row z
   proposed-row None = refl
@@ -67,7 +68,8 @@ module _ {G : Type 0} (s : Scheme G) (o : Offer G) where
     where
       go : (t : Bool) → ltb (row .turn) 1024 ≡ t → (u : Bool) → beaten row ≡ u
           → cond t (Some row) None ≡ None
-          → waiting (o .cell) (after t u row) ≡ better-of s (cond t None (Some (row-offer (o .cell) row))) (Some o)
+          → waiting (o .cell) (after t u row)
+          ≡ better-of s (cond t None (Some (held-offer (o .cell) row))) (Some o)
       go true e u v f = absurd (none-some f refl)
       go false e true v f = rw v
       go false e false v f = rw (e, v)
@@ -89,51 +91,61 @@ module _ {G : Type 0} (s : Scheme G) (o : Offer G) where
 
 module _ {G : Type 0} (s : Scheme G) (law : Lawful s) (h : Meaning) (wf : Well-formed h)
     (just : Option ℕ) (base : Rows G) (wide : length base ≡ 1024) where
+  abbrev P : ℕ → ℕ → Offer G → Type 0
+  P j n a = Passed-to s h just base j n a
+
+  abbrev Fine-at : ℕ → Rows G → Type 0
+  Fine-at j rows = Fine s h just base j rows
+
+  -- the record of number j makes the offer a
+  abbrev Own : ℕ → Record → Offer G → Type 0
+  Own j rec a = (record-at h j ≡ Some rec) × (offer s h base j rec ≡ Some a)
+
   -- what is passed at j + 1 was passed at j, or is record j's own offer
-  one-more : (j : ℕ) (a : Offer G) → Passed s h just base (j + 1) a
-      → Passed s h just base j a
-      ⊎ ((rec : Record) × (record-at h j ≡ Some rec) × (offer s h base j rec ≡ Some a))
-  one-more j a (r, rec, e, f, inl w) = inl (r, rec, e, f, inl w)
-  one-more j a (r, rec, e, f, inr w) = elim (cases-eq r j) [
-    | inl p ↦ inr (rec, (rw p at e), (rw p at f))
-    | inr p ↦ inl (r, rec, e, f, inr (omega arith))
+  one-more : (j n : ℕ) (a : Offer G) → P (j + 1) n a → P j n a ⊎ ((rec : Record) × Own j rec a)
+  one-more j n a ((r, rec, e, f, inl w), q) = inl ((r, rec, e, f, inl w), q)
+  one-more j n a ((r, rec, e, f, inr w), q) = elim (cases-eq r j) [
+    | inl p ↦ inr (rec, ((rw p at e), (rw p at f)))
+    | inr p ↦ inl ((r, rec, e, f, inr (omega arith)), q)
   ]
 
-  more : (j n : ℕ) (a : Offer G) → Passed-to s h just base j n a → Passed-to s h just base (j + 1) n a
+  more : (j n : ℕ) (a : Offer G) → P j n a → P (j + 1) n a
   more j n a ((r, rec, e, f, inl w), q) = ((r, rec, e, f, inl w), q)
   more j n a ((r, rec, e, f, inr w), q) = ((r, rec, e, f, inr (omega arith)), q)
 
   -- a record that makes no offer in this pass leaves the rows as they are
-  still : (j : ℕ) (rows : Rows G)
-      → ((a : Offer G) (rec : Record) → record-at h j ≡ Some rec → offer s h base j rec ≡ Some a → wakes just rec ≡ false)
-      → Fine s h just base j rows → Fine s h just base (j + 1) rows
+  still : (j : ℕ) (rows : Rows G) → ((a : Offer G) (rec : Record) → Own j rec a → wakes just rec ≡ false)
+      → Fine-at j rows → Fine-at (j + 1) rows
   still j rows quiet p = record {
     settled = p .settled;
-    least = λ n. least-iff s law (Passed-to s h just base j n) (Passed-to s h just base (j + 1) n) _ (more j n) (less n) (p .least n);
+    least = λ n. least-iff s law (P j n) (P (j + 1) n) _ (more j n) (less n) (p .least n);
   }
     where
-      less : (n : ℕ) (a : Offer G) → Passed-to s h just base (j + 1) n a → Passed-to s h just base j n a
-      less n a u = elim (one-more j a (u .0)) [
-        | inl v ↦ (v, u .1)
-        | inr v ↦ ((j, v .0, v .1, v .2, inl (quiet a (v .0) (v .1) (v .2))), u .1)
+      less : (n : ℕ) (a : Offer G) → P (j + 1) n a → P j n a
+      less n a u = elim (one-more j n a u) [
+        | inl v ↦ v
+        | inr v ↦ ((j, v .0, v .1 .0, v .1 .1, inl (quiet a (v .0) (v .1))), u .1)
       ]
 
-  module _ (j : ℕ) (rec : Record) (is-rec : record-at h j ≡ Some rec) (rows : Rows G) (p : Fine s h just base j rows) where
+  module _ (j : ℕ) (rec : Record) (is-rec : record-at h j ≡ Some rec)
+      (rows : Rows G) (p : Fine-at j rows) where
+    abbrev at-target : Option (Row G)
+    at-target = getD base (target rec) None
+
     length-rows : length rows ≡ 1024
     length-rows = sym (length-map rows settled-row) ∙ ap length (p .settled) ∙ wide
 
-    own-parts : (a : Offer G) (r : Record) → record-at h j ≡ Some r → offer s h base j r ≡ Some a
-        → (getD base (target rec) None ≡ None) × (given s base (size-for h rec) j rec ≡ Some (a .grade))
-    own-parts a r f o =
-        let q = offer-parts s h base j rec a (subst (λ (z : Record). offer s h base j z ≡ Some a) (some-same f is-rec) o) in
-        (q .0, q .3)
+    own-offer : (a : Offer G) (r : Record) → Own j r a → offer s h base j rec ≡ Some a
+    own-offer a r o = ap (offer s h base j) (some-same is-rec (o .0)) ∙ o .1
 
     -- a record that gives nothing, and one whose cell is settled
-    silent : given s base (size-for h rec) j rec ≡ None → Fine s h just base (j + 1) rows
-    silent e = still j rows (λ a r f o. absurd (none-some e (own-parts a r f o .1))) p
+    silent : given s base (size-for h rec) j rec ≡ None → Fine-at (j + 1) rows
+    silent e =
+        still j rows (λ a r o. absurd (none-some e (offer-parts s h base j rec a (own-offer a r o) .3))) p
 
-    taken-target : (row : Row G) → getD base (target rec) None ≡ Some row → Fine s h just base (j + 1) rows
-    taken-target row e = still j rows (λ a r f o. absurd (none-some (own-parts a r f o .0) e)) p
+    taken-target : (row : Row G) → at-target ≡ Some row → Fine-at (j + 1) rows
+    taken-target row e =
+        still j rows (λ a r o. absurd (none-some (offer-parts s h base j rec a (own-offer a r o) .0) e)) p
 
     module _ (g : G) (gave : given s base (size-for h rec) j rec ≡ Some g) where
       abbrev new : Offer G
@@ -142,106 +154,112 @@ module _ {G : Type 0} (s : Scheme G) (law : Lawful s) (h : Meaning) (wf : Well-f
       abbrev here : Option (Row G)
       here = getD rows (target rec) None
 
-      base-here : getD base (target rec) None ≡ settled-row here
-      base-here = ap (λ (z : Rows G). getD z (target rec) None) (sym (p .settled)) ∙ settled-at rows (target rec)
+      base-here : at-target ≡ settled-row here
+      base-here =
+          ap (λ (z : Rows G). getD z (target rec) None) (sym (p .settled)) ∙ settled-at rows (target rec)
 
       below : target rec < length rows
-      below = let f = target-filled s law h wf j rec is-rec in rw length-rows (cell-below h wf (target rec) (f .0) (f .1))
+      below =
+          let f = target-filled s law h wf j rec is-rec in
+          rw length-rows (cell-below h wf (target rec) (f .0) (f .1))
 
-      -- the cell is not settled, so the new offer and what waits there are compared
-      module _ (free : getD base (target rec) None ≡ None) where
-        abbrev P : ℕ → ℕ → Offer G → Type 0
-        P i n a = Passed-to s h just base i n a
-
+      -- the cell is not settled, so the new offer is compared with what waits there
+      module _ (free : at-target ≡ None) where
         makes : offer s h base j rec ≡ Some new
         makes = rw (free, gave)
 
-        own : (a : Offer G) (r : Record) → record-at h j ≡ Some r → offer s h base j r ≡ Some a → Some new ≡ Some a
-        own a r e f = sym makes ∙ ap (offer s h base j) (some-same is-rec e) ∙ f
+        own : (a : Offer G) (r : Record) → Own j r a → Some new ≡ Some a
+        own a r o = sym makes ∙ own-offer a r o
 
-        at-target : Least s (P (j + 1) (target rec)) (better-of s (waiting (target rec) here) (Some new))
-        at-target =
+        own-cell : (a : Offer G) (r : Record) → Own j r a → a .cell ≡ target rec
+        own-cell a r o = sym (ap (λ (x : Offer G). x .cell) (some-same refl (own a r o)))
+
+        least-here : Least s (P (j + 1) (target rec)) (better-of s (waiting (target rec) here) (Some new))
+        least-here =
             least-iff s law (λ a. P j (target rec) a ⊎ (Some new ≡ Some a)) (P (j + 1) (target rec)) _ to from
-            (least-join s law (P j (target rec)) (λ a. Some new ≡ Some a) (waiting (target rec) here) (Some new)
+            (least-join s law (P j (target rec)) (λ a. Some new ≡ Some a) _ (Some new)
             (p .least (target rec)) (least-self s law (Some new)))
           where
             to : (a : Offer G) → P j (target rec) a ⊎ (Some new ≡ Some a) → P (j + 1) (target rec) a
             to a (inl u) = more j (target rec) a u
             to a (inr u) =
-                ((j, rec, is-rec, makes ∙ u, inr (omega arith)), sym (ap (λ (o : Offer G). o .cell) (some-same refl u)))
+                let cell : a .cell ≡ target rec = sym (ap (λ (x : Offer G). x .cell) (some-same refl u)) in
+                ((j, rec, is-rec, makes ∙ u, inr (omega arith)), cell)
 
             from : (a : Offer G) → P (j + 1) (target rec) a → P j (target rec) a ⊎ (Some new ≡ Some a)
-            from a u = elim (one-more j a (u .0)) [
-              | inl v ↦ inl (v, u .1)
-              | inr v ↦ inr (own a (v .0) (v .1) (v .2))
+            from a u = elim (one-more j (target rec) a u) [
+              | inl v ↦ inl v
+              | inr v ↦ inr (own a (v .0) (v .1))
             ]
 
-        apart : (n : ℕ) → (n ≡ target rec → ⊥) → Least s (P (j + 1) n) (waiting n (getD rows n None))
-        apart n x = least-iff s law (P j n) (P (j + 1) n) (waiting n (getD rows n None)) (more j n) from (p .least n)
+        least-apart : (n : ℕ) → (n ≡ target rec → ⊥) → Least s (P (j + 1) n) (waiting n (getD rows n None))
+        least-apart n x = least-iff s law (P j n) (P (j + 1) n) _ (more j n) from (p .least n)
           where
             from : (a : Offer G) → P (j + 1) n a → P j n a
-            from a u = elim (one-more j a (u .0)) [
-              | inl v ↦ (v, u .1)
-              | inr v ↦ absurd (x (sym (u .1) ∙ sym (ap (λ (o : Offer G). o .cell) (some-same refl (own a (v .0) (v .1) (v .2))))))
+            from a u = elim (one-more j n a u) [
+              | inl v ↦ v
+              | inr v ↦ absurd (x (sym (u .1) ∙ own-cell a (v .0) (v .1)))
             ]
 
         abbrev waits-after : ℕ → Option (Offer G)
         waits-after n = waiting n (getD (propose s new rows) n None)
 
-        target-after : waits-after (target rec) ≡ better-of s (waiting (target rec) here) (Some new)
-        target-after =
+        after-here : waits-after (target rec) ≡ better-of s (waiting (target rec) here) (Some new)
+        after-here =
             ap (waiting (target rec)) (getD-set-same rows (target rec) (proposed s new here) None below)
             ∙ proposed-waiting s new here (sym base-here ∙ free)
 
-        after-least : (n : ℕ) → Least s (P (j + 1) n) (waits-after n)
-        after-least n = elim (cases-eq n (target rec)) [
+        least-after : (n : ℕ) → Least s (P (j + 1) n) (waits-after n)
+        least-after n = elim (cases-eq n (target rec)) [
           | inl x ↦ subst (λ (m : ℕ). Least s (P (j + 1) m) (waits-after m)) (sym x)
-              (subst (Least s (P (j + 1) (target rec))) (sym target-after) at-target)
+              (subst (Least s (P (j + 1) (target rec))) (sym after-here) least-here)
           | inr x ↦ subst (λ (z : Option (Row G)). Least s (P (j + 1) n) (waiting n z))
-              (sym (getD-set-other rows (target rec) n (proposed s new here) None x)) (apart n x)
+              (sym (getD-set-other rows (target rec) n (proposed s new here) None x)) (least-apart n x)
         ]
 
-        fresh : Fine s h just base (j + 1) (propose s new rows)
-        fresh = record { settled = propose-settled s new rows ∙ p .settled; least = after-least }
+        fresh : Fine-at (j + 1) (propose s new rows)
+        fresh = record { settled = propose-settled s new rows ∙ p .settled; least = least-after }
 
-      weighed-fine : Fine s h just base (j + 1) (propose s new rows)
-      weighed-fine = go (getD base (target rec) None) refl
+      weighed-fine : Fine-at (j + 1) (propose s new rows)
+      weighed-fine = go at-target refl
         where
-          go : (x : Option (Row G)) → getD base (target rec) None ≡ x → Fine s h just base (j + 1) (propose s new rows)
+          go : (x : Option (Row G)) → at-target ≡ x → Fine-at (j + 1) (propose s new rows)
           go None e = fresh e
           go (Some row) e =
+              let stands = proposed-stands s new here row (sym base-here ∙ e) in
               let same : propose s new rows ≡ rows =
-              ap (set rows (target rec)) (proposed-stands s new here row (sym base-here ∙ e)) ∙ set-getD rows (target rec) None in
-              subst (Fine s h just base (j + 1)) (sym same) (taken-target row e)
+              ap (set rows (target rec)) stands ∙ set-getD rows (target rec) None in
+              subst (Fine-at (j + 1)) (sym same) (taken-target row e)
 
-    record-fine : Fine s h just base (j + 1) (visit s h just j (Some rec) rows)
+    record-fine : Fine-at (j + 1) (visit s h just j (Some rec) rows)
     record-fine = go (wakes just rec) refl
       where
         by-given : (y : Option G) → given s base (size-for h rec) j rec ≡ y
-            → Fine s h just base (j + 1) (weighed-by s rows j rec y)
+            → Fine-at (j + 1) (weighed-by s rows j rec y)
         by-given None e = silent e
         by-given (Some g) e = weighed-fine g e
 
         go : (t : Bool) → wakes just rec ≡ t
-            → Fine s h just base (j + 1) (cond t (weighed-by s rows j rec (gives s h rows j rec)) rows)
-        go true w = by-given (gives s h rows j rec) (ap (λ (z : Rows G). given s z (size-for h rec) j rec) (sym (p .settled)))
-        go false w = still j rows (λ a r f o. ap (wakes just) (some-same f is-rec) ∙ w) p
+            → Fine-at (j + 1) (cond t (weighed-by s rows j rec (gives s h rows j rec)) rows)
+        go true w =
+            by-given (gives s h rows j rec)
+            (ap (λ (z : Rows G). given s z (size-for h rec) j rec) (sym (p .settled)))
+        go false w = still j rows (λ a r o. ap (wakes just) (some-same (o .0) is-rec) ∙ w) p
 
   -- one record, and then all of them
-  pub visit-fine : (j : ℕ) (rows : Rows G) → Fine s h just base j rows
-      → Fine s h just base (j + 1) (after-visit s h just j rows)
+  pub visit-fine : (j : ℕ) (rows : Rows G) → Fine-at j rows → Fine-at (j + 1) (after-visit s h just j rows)
   visit-fine j rows p = go (record-at h j) refl
     where
-      go : (x : Option Record) → record-at h j ≡ x → Fine s h just base (j + 1) (visit s h just j x rows)
-      go None e = still j rows (λ a rec f o. absurd (none-some e f)) p
+      go : (x : Option Record) → record-at h j ≡ x → Fine-at (j + 1) (visit s h just j x rows)
+      go None e = still j rows (λ a rec o. absurd (none-some e (o .0))) p
       go (Some rec) e = record-fine j rec e rows p
 
-  pub pass-fine : (m i : ℕ) (rows : Rows G) → i + m ≡ length (h .records) → Fine s h just base i rows
-      → Fine s h just base (length (h .records)) (rows-from s h just i rows)
+  pub pass-fine : (m i : ℕ) (rows : Rows G) → i + m ≡ length (h .records) → Fine-at i rows
+      → Fine-at (length (h .records)) (rows-from s h just i rows)
   pass-fine zero i rows e p =
       let q : i ≡ length (h .records) = omega arith in
-      subst (λ (k : ℕ). Fine s h just base k (rows-from s h just i rows)) q
-      (subst (Fine s h just base i) (sym (pass-all s h just rows i (omega arith))) p)
+      subst (λ (k : ℕ). Fine-at k (rows-from s h just i rows)) q
+      (subst (Fine-at i) (sym (pass-all s h just rows i (omega arith))) p)
   pass-fine (suc m) i rows e p =
-      subst (Fine s h just base (length (h .records))) (sym (pass-more s h just rows i (omega arith)))
+      subst (Fine-at (length (h .records))) (sym (pass-more s h just rows i (omega arith)))
       (pass-fine m (i + 1) (after-visit s h just i rows) (omega arith) (visit-fine i rows p))

@@ -3,9 +3,9 @@
 use Prim.Native.Nat.{ℕ, _+_, _<_}
 use mathlib.Core.Path.{_≡_, refl, sym, ap, ap₂, subst, _∙_}
 use mathlib.Core.Bool.{Bool, true, false, cond}
-use mathlib.Core.Logic.{_⊎_, inl, inr}
+use mathlib.Core.Logic.{inl, inr}
 use native.Mathlib.Omega.{arith}
-use lib.Dec.{ltb, eqb}
+use lib.Dec.{eqb}
 use lib.ListN.{length, getD, set}
 use Rattle.std.specs.Options.{isSome}
 use Rattle.std.specs.declared.option.Option.{Option}
@@ -17,12 +17,12 @@ use Rattle.model.specs.declared.record.Record.the-variants.{Root, Link, Ephemer
 use Rattle.model.specs.declared.row.Row.{Row}
 use Rattle.model.specs.declared.row.Offer.{Offer}
 use Rattle.model.specs.Schemes.{Scheme, Lawful}
-use Rattle.model.specs.Meaning.{Meaning, record-at}
+use Rattle.model.specs.Meaning.{Meaning}
 use Rattle.model.specs.Settling.{Rows, target, ready, given, with-grade, offered, offer}
 use Rattle.model.proofs.Filled.{none-some}
 use Rattle.model.proofs.Knuth.{offer-parts}
 use Rattle.engine.specs.Working.{settled-row, settled-rows, waiting, wakes}
-use Rattle.engine.proofs.Least.{Least, Offers, least-iff, least-none}
+use Rattle.engine.proofs.Least.{Least, Offers-to, least-iff, least-none}
 use Rattle.engine.proofs.Passes.{size-for, Passed-to, Fine}
 use Rattle.engine.proofs.Counts.{ready-one, given-ready}
 
@@ -31,7 +31,8 @@ with-none : {G : Type 0} (x y : Option (Row G)) (f : G → G → G) → y ≡ No
 with-none None y f e = refl
 with-none (Some row) y f e = rw e
 
-module _ {G : Type 0} (s : Scheme G) (h : Meaning) (old : Rows G) (c : ℕ) (row : Row G) (free : getD old c None ≡ None) where
+module _ {G : Type 0} (s : Scheme G) (h : Meaning)
+    (old : Rows G) (c : ℕ) (row : Row G) (free : getD old c None ≡ None) where
   abbrev next : Rows G
   next = set old c (Some row)
 
@@ -49,7 +50,8 @@ module _ {G : Type 0} (s : Scheme G) (h : Meaning) (old : Rows G) (c : ℕ) (row
   apart : (a : ℕ) → eqb a c ≡ false → getD next a None ≡ getD old a None
   apart a e = getD-set-other old c a (Some row) None (eqb-false a c e)
 
-  sleep-same : (n r : ℕ) (rec : Record) → wakes (Some c) rec ≡ false → given s next n r rec ≡ given s old n r rec
+  sleep-same : (n r : ℕ) (rec : Record) → wakes (Some c) rec ≡ false
+      → given s next n r rec ≡ given s old n r rec
   sleep-same n r (Root t) w = refl
   sleep-same n r (Link a t k) w =
       ap (λ (x : Option (Row G)). with-grade x (λ g. Some (s .along r n g k))) (apart a w)
@@ -65,7 +67,8 @@ module _ {G : Type 0} (s : Scheme G) (h : Meaning) (old : Rows G) (c : ℕ) (row
       (getD-set-other old c (target rec) (Some row) None x) (sleep-same (size-for h rec) r rec w)
 
   -- the records that are ready now: those that were, and those that woke and are
-  pub each-sealed : (rec : Record) → cond (wakes (Some c) rec) (ready-one next rec) 0 + ready-one old rec ≡ ready-one next rec
+  pub each-sealed : (rec : Record)
+      → cond (wakes (Some c) rec) (ready-one next rec) 0 + ready-one old rec ≡ ready-one next rec
   each-sealed rec = go (wakes (Some c) rec) refl
     where
       go : (t : Bool) → wakes (Some c) rec ≡ t
@@ -79,8 +82,9 @@ module _ {G : Type 0} (s : Scheme G) (h : Meaning) (old : Rows G) (c : ℕ) (row
           rw e (omega arith)
 
   -- once the cell is sealed, every offer that waits is one of a record that did not wake
-  module _ (law : Lawful s) (rows : Rows G) (settled : settled-rows rows ≡ old) (below : c < length rows) (early : row .turn < 1024)
-      (least : (n : ℕ) → Least s (λ a. Offers s h old a × (a .cell ≡ n)) (waiting n (getD rows n None))) where
+  module _ (law : Lawful s) (rows : Rows G) (settled : settled-rows rows ≡ old)
+      (below : c < length rows) (early : row .turn < 1024)
+      (least : (n : ℕ) → Least s (Offers-to s h old n) (waiting n (getD rows n None))) where
     abbrev sealed : Rows G
     sealed = set rows c (Some row)
 
@@ -102,7 +106,7 @@ module _ {G : Type 0} (s : Scheme G) (h : Meaning) (old : Rows G) (c : ℕ) (row
         let at-cell = ap (λ (k : ℕ). getD next k None) (sym (o .1) ∙ q) in
         none-some (o .0) (at-cell ∙ getD-set-same old c (Some row) None below-old)
 
-    to : (n : ℕ) → (n ≡ c → ⊥) → (a : Offer G) → Offers s h old a × (a .cell ≡ n) → P n a
+    to : (n : ℕ) → (n ≡ c → ⊥) → (a : Offer G) → Offers-to s h old n a → P n a
     to n x a ((r, rec, e, f), q) = go (wakes (Some c) rec) refl
       where
         go : (t : Bool) → wakes (Some c) rec ≡ t → P n a
@@ -111,23 +115,31 @@ module _ {G : Type 0} (s : Scheme G) (h : Meaning) (old : Rows G) (c : ℕ) (row
             let same = offer-same r rec w (λ z. x (sym q ∙ offer-parts s h old r rec a f .1 ∙ z)) in
             ((r, rec, e, same ∙ f, inl w), q)
 
-    from : (n : ℕ) → (n ≡ c → ⊥) → (a : Offer G) → P n a → Offers s h old a × (a .cell ≡ n)
+    from : (n : ℕ) → (n ≡ c → ⊥) → (a : Offer G) → P n a → Offers-to s h old n a
     from n x a ((r, rec, e, f, inl w), q) =
         let same = offer-same r rec w (λ z. x (sym q ∙ offer-parts s h next r rec a f .1 ∙ z)) in
         ((r, rec, e, sym same ∙ f), q)
     from n x a ((r, rec, e, f, inr w), q) = absurd (omega arith)
 
-    at : (n : ℕ) → Least s (P n) (waiting n (getD sealed n None))
-    at n = elim (cases-eq n c) [
-      | inl x ↦ subst (λ (m : ℕ). Least s (P m) (waiting m (getD sealed m None))) (sym x)
-          (subst (Least s (P c)) (sym (ap (waiting c) (getD-set-same rows c (Some row) None below) ∙ waits-no-more))
-          (least-none s law (P c) none-here))
-      | inr x ↦ subst (λ (z : Option (Row G)). Least s (P n) (waiting n z)) (sym (getD-set-other rows c n (Some row) None x))
-          (least-iff s law (λ a. Offers s h old a × (a .cell ≡ n)) (P n) (waiting n (getD rows n None)) (to n x) (from n x) (least n))
+    abbrev waits-after : ℕ → Option (Offer G)
+    waits-after n = waiting n (getD sealed n None)
+
+    after-here : waits-after c ≡ None
+    after-here = ap (waiting c) (getD-set-same rows c (Some row) None below) ∙ waits-no-more
+
+    least-after : (n : ℕ) → Least s (P n) (waits-after n)
+    least-after n = elim (cases-eq n c) [
+      | inl x ↦ subst (λ (m : ℕ). Least s (P m) (waits-after m)) (sym x)
+          (subst (Least s (P c)) (sym after-here) (least-none s law (P c) none-here))
+      | inr x ↦ subst (λ (z : Option (Row G)). Least s (P n) (waiting n z))
+          (sym (getD-set-other rows c n (Some row) None x))
+          (least-iff s law (Offers-to s h old n) (P n) _ (to n x) (from n x) (least n))
     ]
 
     pub sealed-fine : Fine s h (Some c) next 0 sealed
     sealed-fine = record {
-      settled = map-set settled-row rows c (Some row) ∙ ap₂ (λ (x : Rows G) (y : Option (Row G)). set x c y) settled is-settled;
-      least = at;
+      settled =
+          map-set settled-row rows c (Some row)
+          ∙ ap₂ (λ (x : Rows G) (y : Option (Row G)). set x c y) settled is-settled;
+      least = least-after;
     }

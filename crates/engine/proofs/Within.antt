@@ -19,7 +19,7 @@ use Rattle.model.specs.Meaning.{Meaning, Well-formed, record-at}
 use Rattle.model.specs.Settling.{Rows, target}
 use Rattle.model.proofs.Filled.{none-some, some-same}
 use Rattle.model.proofs.Formed.{Filled, cell-below, named-filled}
-use Rattle.engine.specs.Working.{row-offer, waiting, chosen, Sources-within}
+use Rattle.engine.specs.Working.{held-offer, waiting, chosen, Sources-within}
 use Rattle.engine.proofs.Least.{least-chosen}
 
 -- a filled record names filled cells, and those are below 1,024
@@ -27,7 +27,8 @@ module _ (h : Meaning) (wf : Well-formed h) (n : ℕ) (wide : n ≡ 1024) where
   below : (c : ℕ) → Filled h c → c < n
   below c f = omega (arith, cell-below h wf c (f .0) (f .1))
 
-  pub names-within : (r : ℕ) (rec : Record) → Some rec ≡ record-at h r → Sources-within n rec × (target rec < n)
+  pub names-within : (r : ℕ) (rec : Record) → Some rec ≡ record-at h r
+      → Sources-within n rec × (target rec < n)
   names-within r (Root t) e = (tt, below t (named-filled h wf r (Root t) (sym e)))
   names-within r (Link a t k) e =
       let p = named-filled h wf r (Link a t k) (sym e) in
@@ -42,7 +43,7 @@ module _ {G : Type 0} (s : Scheme G) (law : Lawful s) where
   waiting-cell n None o e = absurd (none-some refl e)
   waiting-cell n (Some row) o e = go (ltb (row .turn) 1024) e
     where
-      go : (t : Bool) → cond {A = Option (Offer G)} t None (Some (row-offer n row)) ≡ Some o → o .cell ≡ n
+      go : (t : Bool) → cond {A = Option (Offer G)} t None (Some (held-offer n row)) ≡ Some o → o .cell ≡ n
       go true e = absurd (none-some refl e)
       go false e = sym (ap (λ (x : Offer G). x .cell) (some-same refl e))
 

@@ -25,22 +25,23 @@ abbrev pub settled-rows : {G : Type 0} → Rows G → Rows G
 settled-rows rows = map settled-row rows
 
 -- what a row that waits holds, as an offer to its cell c
-abbrev pub row-offer : {G : Type 0} → ℕ → Row G → Offer G
-row-offer c row = record { grade = row .grade; cell = c; number = row .holder }
+abbrev pub held-offer : {G : Type 0} → ℕ → Row G → Offer G
+held-offer c row = record { grade = row .grade; cell = c; number = row .holder }
 
 abbrev pub waiting : {G : Type 0} → ℕ → Option (Row G) → Option (Offer G)
 waiting c None = None
-waiting c (Some row) = cond (ltb (row .turn) 1024) None (Some (row-offer c row))
+waiting c (Some row) = cond (ltb (row .turn) 1024) None (Some (held-offer c row))
 
-abbrev pub waiting-row : {G : Type 0} → Offer G → Row G
-waiting-row o = record { grade = o .grade; holder = o .number; turn = 65535 }
+abbrev pub row-waiting : {G : Type 0} → Offer G → Row G
+row-waiting o = record { grade = o .grade; holder = o .number; turn = 65535 }
 
 -- the row of a cell after an offer to it
 abbrev pub proposed : {G : Type 0} → Scheme G → Offer G → Option (Row G) → Option (Row G)
-proposed s o None = Some (waiting-row o)
+proposed s o None = Some (row-waiting o)
 proposed s o (Some row) =
     cond (ltb (row .turn) 1024) (Some row)
-    (cond (earlier (s .rank (o .grade) (row .grade)) o (row-offer (o .cell) row)) (Some (waiting-row o)) (Some row))
+    (cond (earlier (s .rank (o .grade) (row .grade)) o (held-offer (o .cell) row))
+    (Some (row-waiting o)) (Some row))
 
 abbrev pub propose : {G : Type 0} → Scheme G → Offer G → Rows G → Rows G
 propose s o rows = set rows (o .cell) (proposed s o (getD rows (o .cell) None))
@@ -74,11 +75,13 @@ visited s h just r None rows = false
 visited s h just r (Some rec) rows = cond (wakes just rec) (isSome (gives s h rows r rec)) false
 
 -- all the records from r on: the rows after them, and how many were ready
-unfoldable pub pass : {G : Type 0} → Scheme G → Meaning → Option ℕ → ℕ → List (Option Record) → Rows G → Rows G
+unfoldable pub pass : {G : Type 0} → Scheme G → Meaning → Option ℕ → ℕ → List (Option Record)
+    → Rows G → Rows G
 pass s h just r [] rows = rows
 pass s h just r (x ∷ xs) rows = pass s h just (r + 1) xs (visit s h just r x rows)
 
-unfoldable pub tally : {G : Type 0} → Scheme G → Meaning → Option ℕ → ℕ → List (Option Record) → Rows G → ℕ
+unfoldable pub tally : {G : Type 0} → Scheme G → Meaning → Option ℕ → ℕ → List (Option Record)
+    → Rows G → ℕ
 tally s h just r [] rows = 0
 tally s h just r (x ∷ xs) rows =
     cond (visited s h just r x rows) 1 0 + tally s h just (r + 1) xs (visit s h just r x rows)

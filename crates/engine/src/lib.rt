@@ -1,8 +1,9 @@
 ghost use Prim.Native.Nat.{ℕ, _≤_, _<_};
 ghost use mathlib.Core.Path.{_≡_};
-ghost use lib.ListN.{length, getD};
+ghost use lib.ListN.{length, getD, take};
+ghost use Rattle.std.specs.Vec.{made};
 ghost use Rattle.std.specs.declared.option.Option.the-variants.{None};
-ghost use Rattle.model.specs.Grading.{grade-answer, grade-after, Tells};
+ghost use Rattle.model.specs.Grading.{grade-answer, grade-after, Tells, Numbered, Worsens, All-backed};
 use model::fault::Cause;
 use model::fault::Fault;
 use model::heap::Heap;
@@ -37,6 +38,14 @@ pub fn grade<S: Scheme, H: Heap>(
         let h = H·Heap .meaning (now (heap .entry)) in
         ⌜ ((c : ℕ) → c < 1024 → 1024 ≤ length (now (rows .entry))
         → Tells s h c (getD (now (rows .exit)) c None)) ⌝ }
+    ensures numbered { λ r. ⌜ made r (λ k. Numbered (take 1024 (now (rows .exit))) (k .settled)) ⌝ }
+    ensures worsens { λ r.
+        let s = S·Scheme .model (now (scheme .entry)) in
+        ⌜ made r (λ _. Worsens s (take 1024 (now (rows .exit)))) ⌝ }
+    ensures backed { λ r.
+        let s = S·Scheme .model (now (scheme .entry)) in
+        let h = H·Heap .meaning (now (heap .entry)) in
+        ⌜ made r (λ _. All-backed s h (take 1024 (now (rows .exit)))) ⌝ }
 {
     if rows.len() < CELLS as usize {
         return Err(Fault {

@@ -2,9 +2,8 @@
 ghost use Prim.Native.Nat.{_<_};
 ghost use mathlib.Core.Path.{_≡_};
 ghost use lib.ListN.{length};
-ghost use Rattle.std.specs.declared.option.Option.the-variants.{None};
 ghost use Rattle.model.specs.Settling.{earlier, better-of};
-ghost use Rattle.engine.specs.Working.{waiting, proposed, propose, chosen};
+ghost use Rattle.engine.specs.Working.{held-offer, row-waiting, waiting, proposed, propose, chosen};
 use crate::rows::CELLS;
 use crate::rows::WAITS;
 use crate::rows::fetch;
@@ -53,7 +52,29 @@ fn better<S: Scheme>(
     }
 }
 
-// The offer that waits in the row of `cell`.
+// What a row that waits holds: an offer to its cell.
+fn row_offer<G: Copy>(cell: u16, row: Row<G>) -> Offer<G>
+    ensures { λ r. ⌜ r ≡ held-offer cell row ⌝ }
+{
+    Offer {
+        grade: row.grade,
+        cell,
+        number: row.holder,
+    }
+}
+
+// The row of a cell at which `offer` waits.
+fn waiting_row<G: Copy>(offer: Offer<G>) -> Row<G>
+    ensures { λ r. ⌜ r ≡ row-waiting offer ⌝ }
+{
+    Row {
+        grade: offer.grade,
+        holder: offer.number,
+        turn: WAITS,
+    }
+}
+
+// The offer that waits at `cell`.
 fn candidate<G: Copy>(cell: u16, row: Option<Row<G>>) -> Option<Offer<G>>
     ensures { λ r. ⌜ r ≡ waiting cell row ⌝ }
 {
@@ -61,11 +82,7 @@ fn candidate<G: Copy>(cell: u16, row: Option<Row<G>>) -> Option<Offer<G>>
     if it.turn < CELLS {
         None
     } else {
-        Some(Offer {
-            grade: it.grade,
-            cell,
-            number: it.holder,
-        })
+        Some(row_offer(cell, it))
     }
 }
 
@@ -94,29 +111,13 @@ fn challenge<S: Scheme>(
     ensures { λ r. ⌜ r ≡ proposed (S·Scheme .model (now (scheme .entry))) offer row ⌝ }
 {
     let Some(old) = row else {
-        return Some(Row {
-            grade: offer.grade,
-            holder: offer.number,
-            turn: WAITS,
-        });
+        return Some(waiting_row(offer));
     };
     if old.turn < CELLS {
         return Some(old);
     }
-    if beats(
-        scheme,
-        offer,
-        Offer {
-            grade: old.grade,
-            cell: offer.cell,
-            number: old.holder,
-        },
-    ) {
-        Some(Row {
-            grade: offer.grade,
-            holder: offer.number,
-            turn: WAITS,
-        })
+    if beats(scheme, offer, row_offer(offer.cell, old)) {
+        Some(waiting_row(offer))
     } else {
         Some(old)
     }

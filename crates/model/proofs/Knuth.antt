@@ -20,28 +20,10 @@ use Rattle.model.specs.Derivations.{Derivation, by-root, by-link, by-ephemeron
 use Rattle.model.specs.declared.row.Offer.{Offer}
 use Rattle.model.specs.declared.row.Row.{Row}
 use Rattle.model.specs.Settling.{Rows, target, given, with-grade, offered, size-or-none, filled, offer, best, State, settle-by, step}
+pub use Rattle.model.specs.Grading.{Settled-before, Sources-before, Backed}
 use Rattle.model.proofs.Formed.{Filled, Named, size-within, record-below, named-filled}
 use Rattle.model.proofs.Filled.{In, none-some, some-same, in-filled, from-filled}
 use Rattle.model.proofs.Choice.{best-sound, best-least}
-
--- cell a is settled, before turn t
-abbrev pub Settled-before : {G : Type 0} → Rows G → ℕ → ℕ → Type 0
-Settled-before {G} rows t a = (row : Row G) × (getD rows a None ≡ Some row) × (row .turn < t)
-
-abbrev pub Sources-before : {G : Type 0} → Rows G → ℕ → Record → Type 0
-Sources-before rows t (Root v) = Unit {0}
-Sources-before rows t (Link a v k) = Settled-before rows t a
-Sources-before rows t (Ephemeron a b v) = Settled-before rows t a × Settled-before rows t b
-
--- the row of cell c is what its holder gives, by sources that were settled earlier
-pub record Backed {G : Type 0} (s : Scheme G) (h : Meaning) (rows : Rows G) (c : ℕ) (row : Row G) : Type 0 where
-  pub holding : Record
-  pub size : ℕ
-  pub is-record : record-at h (row .holder) ≡ Some holding
-  pub reaches : target holding ≡ c
-  pub is-size : cell-at h c ≡ Some size
-  pub gives : given s rows size (row .holder) holding ≡ Some (row .grade)
-  pub earlier : Sources-before rows (row .turn) holding
 
 pub record Sound {G : Type 0} (s : Scheme G) (h : Meaning) (st : State G) : Type 0 where
   pub wide : length (st .rows) ≡ 1024

@@ -5,3 +5,4 @@ pub mod Order
 pub mod Knuth
 pub mod Steps
 pub mod Graded
+pub mod Turns

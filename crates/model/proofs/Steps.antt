@@ -73,10 +73,10 @@ module _ {G : Type 0} (s : Scheme G) (law : Lawful s) (h : Meaning) (wf : Well-f
     abbrev pub rows′ : Rows G
     rows′ = set (st .rows) (o .cell) (Some (new-row st o))
 
-    extends : Extends (st .rows) rows′
+    pub extends : Extends (st .rows) rows′
     extends a row e = getD-set-other (st .rows) (o .cell) a (Some (new-row st o)) None (λ p. none-some (t .free) (rw p at e)) ∙ e
 
-    at-new : getD rows′ (o .cell) None ≡ Some (new-row st o)
+    pub at-new : getD rows′ (o .cell) None ≡ Some (new-row st o)
     at-new = getD-set-same (st .rows) (o .cell) (Some (new-row st o)) None (rw (sound .wide) (t .below))
 
     -- a row of the new rows is the new one or an old one

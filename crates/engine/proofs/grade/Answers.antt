@@ -1,6 +1,7 @@
-use mathlib.Core.Path.{_∙_}
-use Rattle.engine.proofs.Rounds.{rows-graded, turn-graded, count-graded}
-use Rattle.engine.proofs.Promise.{answers, fills, tells}
+use Prim.Native.Nat.{_≤_}
+use native.Mathlib.Omega.{arith}
+use lib.ListN.{length}
+use Rattle.engine.proofs.Promise.{answers, fills, tells, numbered, worsens, backed}
 use Rattle.engine.proofs.grade.Needs as need
 
 pub returns : need.returns
@@ -10,12 +11,15 @@ returns g c =
     let h = g .H·Heap .meaning (c .args .heap .now) in
     let wf = g .H·Heap .formed (c .args .heap .now) in
     let lent = c .args .rows .now in
-    let front = c .settle-all .last .rows in
-    let e = c .settle-all .ensures .after ∙ rows-graded s law h wf in
-    let turns = c .settle-all .ensures .turns ∙ turn-graded s law h wf in
-    let counted = c .settle-all .ensures .counted ∙ count-graded s law h wf in
+    let done = c .settle-all in
+    let enough : 1024 ≤ length lent = omega arith in
     record {
-      answers = answers s law h wf lent front (c .if-rows .left) e (c .settle-all .result) turns counted;
-      fills = fills s law h wf lent front (c .if-rows .left) e;
-      tells = λ n l _. tells s law h wf lent front (c .if-rows .left) e n l;
+      answers = answers s law h wf lent (done .last .rows) enough (done .ensures .after) (done .result)
+          (done .ensures .turns) (done .ensures .counted);
+      fills = fills s law h wf lent (done .last .rows) enough (done .ensures .after);
+      tells = λ n l _. tells s law h wf lent (done .last .rows) enough (done .ensures .after) n l;
+      numbered = numbered s law h wf lent (done .last .rows) enough (done .ensures .after)
+          (done .result .settled) (done .ensures .turns);
+      worsens = worsens s law h wf lent (done .last .rows) enough (done .ensures .after);
+      backed = backed s law h wf lent (done .last .rows) enough (done .ensures .after);
     }

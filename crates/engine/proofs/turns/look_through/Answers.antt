@@ -8,10 +8,13 @@ use Rattle.engine.proofs.turns.look_through.Needs.{then-look-at, else-look-at}
 
 counted : (g : _) (c : need.Joined-look-at g)
     → c .if-look-at .count ≡ c .loop-number .count + cond (c .look-at .result) 1 0
-counted g c = elim (c .if-look-at .came) [
-  | then-look-at w ↦ goes-up _ _ _ (w .if-look-at .taken) (w .count-is)
-  | else-look-at w ↦ stays _ _ _ (w .if-look-at .left) (w .count-is)
-]
+counted g c =
+    let was = c .loop-number .count in
+    let is = c .if-look-at .count in
+    elim (c .if-look-at .came) [
+      | then-look-at w ↦ goes-up (c .look-at .result) was is (w .if-look-at .taken) (omega (arith, w .count-is))
+      | else-look-at w ↦ stays (c .look-at .result) was is (w .if-look-at .left) (omega (arith, w .count-is))
+    ]
 
 pub loop-number-again : need.loop-number-again
 loop-number-again g c =
@@ -23,8 +26,9 @@ loop-number-again g c =
     let e = pass-more s h (c .args .just) (at .rows) (at .number) (omega arith) in (
       omega (arith, up-to-one (looked .result) (at .count) (c .if-look-at .count) (counted g c)),
       cc (looked .ensures .after, at .inv .1),
-      tally-turn s h (c .args .just) (at .rows) (looked .last .rows) (at .number) (at .count) (c .if-look-at .count) _
-          (looked .result) (omega arith) (looked .ensures .after) (looked .ensures .counted) (counted g c) (at .inv .2),
+      tally-turn s h (c .args .just) (at .rows) (looked .last .rows) (at .number) (at .count)
+          (c .if-look-at .count) _ (looked .result) (omega arith)
+          (looked .ensures .after) (looked .ensures .counted) (counted g c) (at .inv .2),
     )
 
 pub returns : need.returns

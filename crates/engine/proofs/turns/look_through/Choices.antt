@@ -10,4 +10,5 @@ Inv-loop-number g l =
     let h = g .H·Heap .meaning (l .heap) in
     (l .count ≤ l .number)
     × (rows-from s h (l .just) (l .number) (l .rows) ≡ rows-from s h (l .just) 0 (l .entry .rows))
-    × (l .count + count-from s h (l .just) (l .number) (l .rows) ≡ count-from s h (l .just) 0 (l .entry .rows))
+    × (l .count + count-from s h (l .just) (l .number) (l .rows)
+    ≡ count-from s h (l .just) 0 (l .entry .rows))

@@ -1,5 +1,4 @@
-use Prim.Native.Nat.{ℕ}
-use mathlib.Core.Path.{_≡_, sym, ap, _∙_}
+use mathlib.Core.Path.{_≡_, ap, _∙_}
 use native.Mathlib.Omega.{arith}
 use Rattle.engine.specs.Working.{Work}
 use Rattle.engine.proofs.Loops.{start-run, turn-run, turn-stop, run-none}
@@ -8,30 +7,33 @@ use Rattle.engine.proofs.turns.settle_all.Needs as need
 pub loop-turn-holds : need.loop-turn-holds
 loop-turn-holds g c =
     let s = g .S·Scheme .model (c .args .scheme .now) in
-    let h = g .H·Heap .meaning (c .args .heap .now) in (
-      c .look-through-weighed .ensures .small,
-      start-run s h 1024 1024 (c .look-through-weighed .result) (c .clear .last .rows)
-          (c .look-through-weighed .last .rows) (c .clear .ensures)
-          (c .look-through-weighed .ensures .after) (c .look-through-weighed .ensures .counted),
+    let h = g .H·Heap .meaning (c .args .heap .now) in
+    let looked = c .look-through-weighed in (
+      looked .ensures .small,
+      start-run s h 1024 1024 (looked .result) (c .clear .last .rows) (looked .last .rows)
+          (c .clear .ensures) (looked .ensures .after) (looked .ensures .counted),
     )
 
 pub loop-turn-again : need.loop-turn-again
 loop-turn-again g c =
     let s = g .S·Scheme .model (c .args .scheme .now) in
-    let h = g .H·Heap .meaning (c .args .heap .now) in (
-      omega (arith, c .take-turn .ensures .small (c .in-Some .count) (c .in-Some .is), c .loop-turn .inv .0),
-      turn-run s h (c .loop-turn .rows) (c .take-turn .last .rows) (c .loop-turn .turn) (c .loop-turn .weighed)
-          (c .in-Some .count) 1024 _ (c .loop-turn-test .taken) (c .take-turn .ensures .after)
-          (sym (c .in-Some .is) ∙ c .take-turn .ensures .counted) (c .loop-turn .inv .1),
+    let h = g .H·Heap .meaning (c .args .heap .now) in
+    let at = c .loop-turn in
+    let took = c .take-turn in (
+      omega (arith, took .ensures .small (c .in-Some .count) (c .in-Some .is), at .inv .0),
+      turn-run s h (at .rows) (took .last .rows) (at .turn) (at .weighed) (c .in-Some .count) 1024
+          (took .result) _ (c .loop-turn-test .taken)
+          (took .ensures .after) (took .ensures .counted) (c .in-Some .is) (at .inv .1),
     )
 
 pub returns-in-rest : need.returns-in-rest
 returns-in-rest g c =
     let s = g .S·Scheme .model (c .args .scheme .now) in
     let h = g .H·Heap .meaning (c .args .heap .now) in
-    let p = turn-stop s h (c .loop-turn .rows) (c .take-turn .last .rows) (c .loop-turn .turn)
-    (c .loop-turn .weighed) _ _ (c .take-turn .ensures .after)
-    (sym (c .in-rest .is) ∙ c .take-turn .ensures .counted) (c .loop-turn .inv .1) in
+    let at = c .loop-turn in
+    let took = c .take-turn in
+    let p = turn-stop s h (at .rows) (took .last .rows) (at .turn) (at .weighed) _ (took .result) _
+    (took .ensures .after) (took .ensures .counted) (c .in-rest .is) (at .inv .1) in
     record { after = p .0; turns = p .1; counted = p .2 }
 
 pub returns : need.returns

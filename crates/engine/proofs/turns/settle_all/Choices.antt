@@ -9,4 +9,5 @@ Inv-loop-turn g l =
     let s = g .S·Scheme .model (l .scheme) in
     let h = g .H·Heap .meaning (l .heap) in
     (l .weighed ≤ 4096 * (l .turn + 1))
-    × (run s h (1024 - l .turn) (record { rows = l .rows; turn = l .turn; count = l .weighed }) ≡ all-turns s h)
+    × (run s h (1024 - l .turn) (record { rows = l .rows; turn = l .turn; count = l .weighed })
+    ≡ all-turns s h)
