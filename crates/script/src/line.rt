@@ -2,12 +2,10 @@
 ghost use mathlib.Core.Path.{_≡_};
 ghost use Prim.Native.Nat.{_≤_};
 ghost use lib.ListN.{length, take};
-ghost use Rattle.std.specs.Of.Vec.{vec-items};
-ghost use Rattle.std.specs.Vec.{made};
 ghost use Rattle.model.specs.Faults.{answer as answered};
 ghost use Rattle.live.specs.Live.{meaning-of};
 ghost use Rattle.text.specs.Tokens.{reading-of};
-ghost use Rattle.text.specs.Writing.{Wrote};
+ghost use Rattle.text.specs.Writing.{Writes};
 ghost use Rattle.script.specs.Lines.{fault-of, after-command, placed, obeyed, heap-after, grading-text, outcome-text, answer-line};
 use crate::print::print_graded;
 use crate::print::print_refusal;
@@ -107,7 +105,7 @@ where
     ensures { λ r.
         let s = S·Scheme .model (now (scheme .entry)) in
         let h = H·Heap .meaning (now (heap .entry)) in
-        ⌜ made r (λ _. Wrote (vec-items (now (out .entry))) (grading-text (Grade·Shown .text) s h (now (rows .entry))) (vec-items (now (out .exit)))) ⌝ }
+        ⌜ Writes r (now (out .entry)) (grading-text (Grade·Shown .text) s h (now (rows .entry))) (now (out .exit)) ⌝ }
 {
     match grade(scheme, heap, rows) {
         Ok(counts) => print_graded(out, counts, first_rows(rows)),
@@ -121,7 +119,7 @@ fn print_outcome(
     heap: &LiveHeap,
     outcome: Result<Command, Refusal>,
 ) -> Result<(), AllocError>
-    ensures { λ r. ⌜ made r (λ _. Wrote (vec-items (now (out .entry))) (outcome-text (meaning-of (now (heap .entry))) outcome) (vec-items (now (out .exit)))) ⌝ }
+    ensures { λ r. ⌜ Writes r (now (out .entry)) (outcome-text (meaning-of (now (heap .entry))) outcome) (now (out .exit)) ⌝ }
 {
     match outcome {
         Ok(Command::Grade { scheme }) => match scheme {
@@ -137,7 +135,7 @@ fn print_outcome(
 // Obeys a line, and puts its answer behind what `out` holds. A refused line leaves
 // the heap alone.
 pub fn answer(heap: &mut LiveHeap, line: &[u8], out: &mut Vec<u8>) -> Result<(), AllocError>
-    ensures writes { λ r. ⌜ made r (λ _. Wrote (vec-items (now (out .entry))) (answer-line (meaning-of (now (heap .entry))) (now (line .entry))) (vec-items (now (out .exit)))) ⌝ }
+    ensures writes { λ r. ⌜ Writes r (now (out .entry)) (answer-line (meaning-of (now (heap .entry))) (now (line .entry))) (now (out .exit)) ⌝ }
     ensures leaves { λ _. ⌜ meaning-of (now (heap .exit)) ≡ heap-after (meaning-of (now (heap .entry))) (now (line .entry)) ⌝ }
 {
     let outcome = obey(heap, line);

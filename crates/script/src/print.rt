@@ -1,7 +1,5 @@
 // The answers as they are printed, without the byte that ends the line.
-ghost use Rattle.std.specs.Of.Vec.{vec-items};
-ghost use Rattle.std.specs.Vec.{made};
-ghost use Rattle.text.specs.Writing.{Wrote};
+ghost use Rattle.text.specs.Writing.{Writes};
 ghost use Rattle.script.specs.Answers.{refusal-text, row-text-if, rows-text, graded-text};
 use crate::show::Shown;
 use model::row::Counts;
@@ -13,7 +11,7 @@ use text::write::write_number;
 use text::write::write_text;
 
 pub fn print_refusal(out: &mut Vec<u8>, refusal: Refusal) -> Result<(), AllocError>
-    ensures { λ r. ⌜ made r (λ _. Wrote (vec-items (now (out .entry))) (refusal-text refusal) (vec-items (now (out .exit)))) ⌝ }
+    ensures { λ r. ⌜ Writes r (now (out .entry)) (refusal-text refusal) (now (out .exit)) ⌝ }
 {
     let cause = refusal.fault.cause;
     write_text(out, b"no ")?;
@@ -27,7 +25,7 @@ pub fn print_refusal(out: &mut Vec<u8>, refusal: Refusal) -> Result<(), AllocErr
 
 // A cell with its row; nothing where it is unsettled.
 fn print_row<G: Shown>(out: &mut Vec<u8>, cell: u64, row: Option<Row<G>>) -> Result<(), AllocError>
-    ensures { λ r. ⌜ made r (λ _. Wrote (vec-items (now (out .entry))) (row-text-if (G·Shown .text) cell row) (vec-items (now (out .exit)))) ⌝ }
+    ensures { λ r. ⌜ Writes r (now (out .entry)) (row-text-if (G·Shown .text) cell row) (now (out .exit)) ⌝ }
 {
     let Some(row) = row else {
         return Ok(());
@@ -43,7 +41,7 @@ fn print_row<G: Shown>(out: &mut Vec<u8>, cell: u64, row: Option<Row<G>>) -> Res
 
 // The settled cells in their order.
 fn print_rows<G: Shown>(out: &mut Vec<u8>, rows: &[Option<Row<G>>]) -> Result<(), AllocError>
-    ensures { λ r. ⌜ made r (λ _. Wrote (vec-items (now (out .entry))) (rows-text (G·Shown .text) 0 (now (rows .entry))) (vec-items (now (out .exit)))) ⌝ }
+    ensures { λ r. ⌜ Writes r (now (out .entry)) (rows-text (G·Shown .text) 0 (now (rows .entry))) (now (out .exit)) ⌝ }
 {
     for cell in 0..rows.len() {
         print_row(out, cell as u64, rows[cell])?;
@@ -57,7 +55,7 @@ pub fn print_graded<G: Shown>(
     counts: Counts,
     rows: &[Option<Row<G>>],
 ) -> Result<(), AllocError>
-    ensures { λ r. ⌜ made r (λ _. Wrote (vec-items (now (out .entry))) (graded-text (G·Shown .text) counts (now (rows .entry))) (vec-items (now (out .exit)))) ⌝ }
+    ensures { λ r. ⌜ Writes r (now (out .entry)) (graded-text (G·Shown .text) counts (now (rows .entry))) (now (out .exit)) ⌝ }
 {
     write_text(out, b"ok ")?;
     write_number(out, counts.settled as u64)?;

@@ -1,10 +1,9 @@
 // A script whose bytes come in one after another.
 ghost use mathlib.Core.Path.{_≡_};
 ghost use mathlib.Core.List.{[]};
-ghost use Rattle.std.specs.Of.Vec.{vec-items};
 ghost use Rattle.std.specs.Vec.{made};
 ghost use Rattle.model.specs.Calls.{empty-heap};
-ghost use Rattle.text.specs.Writing.{Wrote};
+ghost use Rattle.text.specs.Writing.{Writes};
 ghost use Rattle.script.specs.Scripts.{with-byte, line-ended, line-answer, after-byte, byte-prints, end-prints, Answers-each-line};
 ghost use Rattle.script.specs.Held.{state-of};
 use crate::line::answer;
@@ -47,7 +46,7 @@ impl Script {
     // Answers the line so far, and begins another.
     fn end_line(&mut self, out: &mut Vec<u8>) -> Result<(), AllocError>
         ensures moves { λ r. ⌜ made r (λ _. state-of (now (self .exit)) ≡ line-ended (state-of (now (self .entry)))) ⌝ }
-        ensures writes { λ r. ⌜ made r (λ _. Wrote (vec-items (now (out .entry))) (line-answer (state-of (now (self .entry)))) (vec-items (now (out .exit)))) ⌝ }
+        ensures writes { λ r. ⌜ Writes r (now (out .entry)) (line-answer (state-of (now (self .entry)))) (now (out .exit)) ⌝ }
     {
         answer(&mut self.heap, &self.line, out)?;
         self.line.clear();
@@ -57,7 +56,7 @@ impl Script {
     // Takes in the next byte of the input, and puts what it prints behind what `out` holds.
     pub fn take(&mut self, byte: u8, out: &mut Vec<u8>) -> Result<(), AllocError>
         ensures moves { λ r. ⌜ made r (λ _. state-of (now (self .exit)) ≡ after-byte (state-of (now (self .entry))) byte) ⌝ }
-        ensures writes { λ r. ⌜ made r (λ _. Wrote (vec-items (now (out .entry))) (byte-prints (state-of (now (self .entry))) byte) (vec-items (now (out .exit)))) ⌝ }
+        ensures writes { λ r. ⌜ Writes r (now (out .entry)) (byte-prints (state-of (now (self .entry))) byte) (now (out .exit)) ⌝ }
     {
         if byte == b'\n' {
             self.end_line(out)
@@ -68,7 +67,7 @@ impl Script {
 
     // Ends the input: a line that was begun is answered.
     pub fn end(&mut self, out: &mut Vec<u8>) -> Result<(), AllocError>
-        ensures { λ r. ⌜ made r (λ _. Wrote (vec-items (now (out .entry))) (end-prints (state-of (now (self .entry)))) (vec-items (now (out .exit)))) ⌝ }
+        ensures { λ r. ⌜ Writes r (now (out .entry)) (end-prints (state-of (now (self .entry)))) (now (out .exit)) ⌝ }
     {
         if self.line.is_empty() {
             Ok(())

@@ -1,9 +1,7 @@
 // How a grade is written in an answer.
 ghost use mathlib.Core.List.{List};
 ghost use Prim.Native.Nat.{ℕ};
-ghost use Rattle.std.specs.Of.Vec.{vec-items};
-ghost use Rattle.std.specs.Vec.{made};
-ghost use Rattle.text.specs.Writing.{Wrote};
+ghost use Rattle.text.specs.Writing.{Writes};
 ghost use Rattle.script.specs.Answers.{strength-text, bytes-text, depth-text};
 use model::record::Strength;
 use schemes::depth::Depth;
@@ -15,7 +13,7 @@ pub trait Shown: Copy {
     ghost text: { Self → List ℕ };
 
     fn write(self, out: &mut Vec<u8>) -> Result<(), AllocError>
-        ensures { λ r. ⌜ made r (λ _. Wrote (vec-items (now (out .entry))) (text self) (vec-items (now (out .exit)))) ⌝ };
+        ensures { λ r. ⌜ Writes r (now (out .entry)) (text self) (now (out .exit)) ⌝ };
 }
 
 pub impl Shown for Strength as StrengthShown {
