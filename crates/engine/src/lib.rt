@@ -20,6 +20,9 @@ mod weigh;
 
 // Grades the cells of `heap` under `scheme`. The first 1,024 rows become those of the
 // settling rule, whatever they held, and the others stand; fewer rows are refused.
+// So each row has the grade of a best derivation, and a cell without a row has none.
+// Turns number the settled cells from 0 up, in an order in which grades never get better,
+// and what holds a cell draws only on cells that were settled before it.
 pub fn grade<S: Scheme, H: Heap>(
     scheme: &S,
     heap: &H,

@@ -32,6 +32,7 @@ fn beats<S: Scheme>(scheme: &S, a: Offer<S::Grade>, b: Offer<S::Grade>) -> bool
     }
 }
 
+// The one of two offers that is taken first, where there are two.
 fn better<S: Scheme>(
     scheme: &S,
     a: Option<Offer<S::Grade>>,

@@ -15,6 +15,7 @@ pub(crate) const CELLS: u16 = 1024;
 // The turn of a row that waits.
 pub(crate) const WAITS: u16 = 0xffff;
 
+// Rows are read here and written in `store` alone, so only there an index has to be in range.
 pub(crate) fn fetch<G: Copy>(rows: &[Option<Row<G>>], cell: u16) -> Option<Row<G>>
     requires { ⌜ cell < length (now rows) ⌝ }
     ensures { λ r. ⌜ r ≡ getD (now (rows .entry)) cell None ⌝ }

@@ -70,6 +70,7 @@ fn take_turn<S: Scheme, H: Heap>(
     Some(count)
 }
 
+// Settles one cell a turn until no offer is left; 1,024 turns are enough for all cells.
 pub(crate) fn settle_all<S: Scheme, H: Heap>(
     scheme: &S,
     heap: &H,
