@@ -12,7 +12,7 @@ const ENOUGH: usize = 65536;
 fn main(rt: LibcRuntime) -> io::Result<()> {
     let mut input = rt.stdin();
     let mut output = rt.stdout();
-    let mut script = Script::new(rt.alloc());
+    let mut script = Script::new();
     let mut chunk = vec![in rt.alloc(); 0u8; CHUNK]?;
     let mut out = Vec::new(rt.alloc());
     for _ in 0..u64::MAX {

@@ -13,7 +13,7 @@ use Rattle.std.proofs.shelf.Lists.{take-all}
 use Rattle.report.specs.Count.{count-filled}
 
 more : {A : Type 0} (xs : List (Option A)) (i : ℕ) → i < length xs →
-  count-filled (take (suc i) xs) ≡ count-filled (take i xs) + cond (isSome (getD xs i None)) 1 0
+    count-filled (take (suc i) xs) ≡ count-filled (take i xs) + cond (isSome (getD xs i None)) 1 0
 unfolding count-filled
 more [] i l = absurd (omega arith)
 more (x ∷ xs) zero l = omega arith

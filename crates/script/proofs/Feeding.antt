@@ -5,9 +5,10 @@ use mathlib.Core.Bool.{Bool, true, false, cond}
 use mathlib.Core.List.{List, [], _∷_, _++_, append-nil, append-assoc}
 use mathlib.Core.Logic.{inl, inr}
 use native.Mathlib.Omega.{arith}
+use native.Mathlib.Numerals.{add-one}
 use lib.Dec.{eqb, ltb}
-use lib.ListN.{length, take, length-take, length-append}
-use lib.Seq.{take-append-le}
+use lib.ListN.{length, take, set, length-take, length-append}
+use lib.Seq.{take-append-le, take-suc-set}
 use borrow.Author.Tests.{lt-ltb, le-ltb, eq-eqb, ne-eqb}
 use Rattle.std.proofs.shelf.Lists.{take-all}
 use Rattle.std.proofs.shelf.Tests.{cases-lt}
@@ -18,7 +19,7 @@ use Rattle.text.specs.declared.refusal.Refusal.{Refusal}
 use Rattle.text.specs.Words.{Reading}
 use Rattle.text.specs.Commands.{words-in, command-in, then}
 use Rattle.script.specs.Lines.{obeyed, heap-after, answer-line, after-if, outcome-text, placed, fault-of}
-use Rattle.script.specs.Scripts.{State, lines-of, onto-first, answers, output, with-byte, after-byte, byte-prints, end-prints, line-ended, line-answer, Answers-each-line}
+use Rattle.script.specs.Scripts.{State, lines-of, onto-first, answers, output, kept, with-byte, after-byte, byte-prints, end-prints, line-ended, line-answer, Answers-each-line}
 use Rattle.model.specs.Faults.{answer}
 
 -- the first 81 bytes say as much as the whole line
@@ -61,6 +62,13 @@ kept-cap h q b = ap (λ (l : List ℕ). record { heap = h; line = l }) (elim (ca
       let t = le-ltb (length (take 81 q)) 81 (omega arith) in
       rw t (sym (take-append-le 81 q (b ∷ []) l)))
 ])
+
+-- a byte more in the buffer
+pub kept-more : (xs : List ℕ) (n b : ℕ) → length xs ≡ 81 → n < 81 → take (n + 1) (set xs n b) ≡ kept (take n xs) b
+kept-more xs n b w l =
+    let e = length-take n xs in
+    let t = lt-ltb (length (take n xs)) 81 (omega arith) in
+    rw (add-one n, t) (take-suc-set xs n b (omega arith))
 
 -- lines the first of which began with q
 abbrev begun : List ℕ → List (List ℕ) → List (List ℕ)

@@ -29,11 +29,11 @@ pub record State : Type 0 where
   pub line : List ℕ
 
 -- a byte more of the line
+abbrev pub kept : List ℕ → ℕ → List ℕ
+kept line b = cond (ltb (length line) 81) (line ++ (b ∷ [])) line
+
 abbrev pub with-byte : State → ℕ → State
-with-byte st b = record {
-  heap = st .heap;
-  line = cond (ltb (length (st .line)) 81) (st .line ++ (b ∷ [])) (st .line);
-}
+with-byte st b = record { heap = st .heap; line = kept (st .line) b }
 
 -- the end of the line: what it leaves, and what it prints
 abbrev pub line-ended : State → State

@@ -14,10 +14,12 @@ pub fn print_refusal(out: &mut Vec<u8>, refusal: Refusal) -> Result<(), AllocErr
     ensures { λ r. ⌜ Writes r (now (out .entry)) (refusal-text refusal) (now (out .exit)) ⌝ }
 {
     let cause = refusal.fault.cause;
+    let letter = cause.layer().letter();
+    let number = cause.number() as u64;
     write_text(out, b"no ")?;
-    write_byte(out, cause.layer().letter())?;
+    write_byte(out, letter)?;
     write_byte(out, b' ')?;
-    write_number(out, cause.number() as u64)?;
+    write_number(out, number)?;
     write_byte(out, b' ')?;
     write_number(out, refusal.byte as u64)?;
     Ok(())

@@ -1,5 +1,4 @@
-use Rattle.std.proofs.shelf.Results.{made-weaker}
-use Rattle.text.proofs.Spelling.{as-text}
+use Rattle.text.proofs.Spelling.{writes-as}
 use Rattle.script.proofs.Gradings.{grading-printed}
 use Rattle.script.proofs.line.print_grades.Needs as need
 
@@ -11,4 +10,4 @@ returns-in-Ok g c =
     let wf = g .H·Heap .formed (c .args .heap .now) in
     let e = grading-printed (g .Grade·Shown .text) s law h wf (c .args .rows .now) (c .grade .last .rows) (c .first-rows .result .now) (c .in-Ok .counts)
     (c .in-Ok .ensures tt .answers) (c .grade .ensures .fills) (c .first-rows .ensures) in
-    made-weaker (c .print-graded .result) _ _ (λ u w. as-text e w) (c .print-graded .ensures)
+    writes-as (c .print-graded .result) _ _ e (c .print-graded .ensures)
