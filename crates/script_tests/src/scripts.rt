@@ -4,7 +4,7 @@ use std::test::*;
 
 // Whether a script prints this.
 fn check_prints(memory: Global, input: &str, expected: &str) -> Result<(), Fail> {
-    let mut script = Script::new(memory);
+    let mut script = Script::new();
     let mut out = Vec::new(memory);
     for byte in input.as_bytes() {
         script.take(*byte, &mut out)?;
@@ -32,7 +32,7 @@ fn empty_lines_are_answered(rt: LibcRuntime) -> Result<(), Fail> {
 
 #[test]
 fn a_long_line_is_refused_once(rt: LibcRuntime) -> Result<(), Fail> {
-    let mut script = Script::new(rt.alloc());
+    let mut script = Script::new();
     let mut out = Vec::new(rt.alloc());
     for _ in 0..200 {
         script.take(b'7', &mut out)?;
