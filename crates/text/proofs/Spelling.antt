@@ -1,4 +1,4 @@
--- Text that is written piece by piece.
+-- What is written piece by piece is the pieces one behind another, as a number is its digits.
 use Prim.Native.Nat.{ℕ, _+_, _/_, _%_, _^_, _≤_, _<_}
 use mathlib.Core.Path.{_≡_, sym, ap, subst, _∙_}
 use mathlib.Core.List.{List, [], _∷_, _++_, append-assoc}
@@ -20,6 +20,6 @@ as-text {a} {c} e w = subst (λ (x : List ℕ). Wrote a x c) e w
 pub one-digit : {a c : List ℕ} (n : ℕ) → n < 10 → Wrote a ((48 + n) ∷ []) c → Wrote a (decimal n) c
 one-digit n l w = as-text (sym (decimal-digit n l)) w
 
-pub last-digit : {a b c : List ℕ} (n : ℕ) → 10 ≤ n → n < 2 ^ 64 →
-    Wrote a (decimal (n / 10)) b → Wrote b ((48 + n % 10) ∷ []) c → Wrote a (decimal n) c
+pub last-digit : {a b c : List ℕ} (n : ℕ) → 10 ≤ n → n < 2 ^ 64
+    → Wrote a (decimal (n / 10)) b → Wrote b ((48 + n % 10) ∷ []) c → Wrote a (decimal n) c
 last-digit n l m v w = as-text (sym (decimal-step n l m)) (and-then v w)
