@@ -1,7 +1,7 @@
 -- What a well-formed meaning says of its filled cells and records.
 use Prim.Native.Nat.{ℕ, _≤_, _<_}
 use mathlib.Core.Path.{_≡_, refl, subst}
-use mathlib.Core.Bool.{Bool, true, _&&_}
+use mathlib.Core.Bool.{true, _&&_}
 use mathlib.Core.List.{List}
 use mathlib.Core.Logic.{inl, inr}
 use native.Mathlib.Omega.{arith}
@@ -14,7 +14,8 @@ use Rattle.std.specs.declared.option.Option.the-variants.{Some, None}
 use Rattle.std.proofs.shelf.Tests.{cases-lt, and-parts, false≢true}
 use Rattle.model.specs.declared.record.Record.{Record}
 use Rattle.model.specs.declared.record.Record.the-variants.{Root, Link, Ephemeron}
-use Rattle.model.specs.Meaning.{Meaning, Well-formed, cell-at, record-at, size-fits, filled-in, names-filled}
+use Rattle.model.specs.Meaning.{Meaning, Well-formed, cell-at, record-at}
+use Rattle.model.specs.Meaning.{size-fits, filled-in, names-filled}
 use Rattle.model.proofs.Filled.{none-some}
 
 -- cell c holds something
@@ -27,17 +28,20 @@ Named h (Root t) = Filled h t
 Named h (Link a t k) = Filled h a × Filled h t
 Named h (Ephemeron a b v) = Filled h a × Filled h b × Filled h v
 
-pub some-of : {A : Type 0} (o : Option A) → isSome o ≡ true → (x : A) × (o ≡ Some x)
+some-of : {A : Type 0} (o : Option A) → isSome o ≡ true → (x : A) × (o ≡ Some x)
 some-of None e = absurd (false≢true e)
 some-of (Some x) e = (x, refl)
 
-below : {A : Type 0} (xs : List (Option A)) (i k : ℕ) (x : A) → length xs ≡ k → getD xs i None ≡ Some x → i < k
+-- a filled place lies within its list
+below : {A : Type 0} (xs : List (Option A)) (i k : ℕ) (x : A) → length xs ≡ k
+    → getD xs i None ≡ Some x → i < k
 below xs i k x w e = elim (cases-lt i k) [
   | inl p ↦ p
   | inr p ↦ absurd (none-some (List·getD-eq-default xs None {n = i} (omega arith)) e)
 ]
 
 module _ (h : Meaning) (wf : Well-formed h) where
+  -- the number of a filled cell or record, and the size of a cell, are within their bounds
   pub cell-below : (c n : ℕ) → cell-at h c ≡ Some n → c < 1024
   cell-below c n e = below (h .cells) c 1024 n (wf .cell-count) e
 
@@ -46,10 +50,12 @@ module _ (h : Meaning) (wf : Well-formed h) where
 
   pub size-within : (c n : ℕ) → cell-at h c ≡ Some n → (1 ≤ n) × (n ≤ 1048576)
   size-within c n e =
-      let p = and-parts (leb 1 n) (leb n 1048576) (subst (λ (o : Option ℕ). size-fits o ≡ true) e (wf .sizes-fit c)) in
+      let fits = subst (λ (o : Option ℕ). size-fits o ≡ true) e (wf .sizes-fit c) in
+      let p = and-parts (leb 1 n) (leb n 1048576) fits in
       (leb-true 1 n (p .0), leb-true n 1048576 (p .1))
 
-  pub names-of : (rec : Record) → names-filled (h .cells) (Some rec) ≡ true → Named h rec
+  -- a filled record names filled cells
+  names-of : (rec : Record) → names-filled (h .cells) (Some rec) ≡ true → Named h rec
   names-of (Root t) e = some-of (cell-at h t) e
   names-of (Link a t k) e =
       let p = and-parts (filled-in (h .cells) a) (filled-in (h .cells) t) e in
@@ -61,4 +67,5 @@ module _ (h : Meaning) (wf : Well-formed h) where
 
   pub named-filled : (r : ℕ) (rec : Record) → record-at h r ≡ Some rec → Named h rec
   named-filled r rec e =
-      names-of rec (subst (λ (o : Option Record). names-filled (h .cells) o ≡ true) e (wf .names-filled-cells r))
+      let formed = wf .names-filled-cells r in
+      names-of rec (subst (λ (o : Option Record). names-filled (h .cells) o ≡ true) e formed)

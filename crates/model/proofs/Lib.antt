@@ -1,7 +1,7 @@
 pub mod Filled
 pub mod Formed
-pub mod Choice
 pub mod Order
+pub mod Choice
 pub mod Knuth
 pub mod Steps
 pub mod Graded

@@ -3,7 +3,7 @@ use Prim.Native.Nat.{ℕ, zero, suc, _<_}
 use mathlib.Core.Path.{_≡_, refl, sym, subst}
 use mathlib.Core.Logic.{inl, inr}
 use native.Mathlib.Omega.{arith}
-use lib.ListN.{getD, replicate}
+use lib.ListN.{getD}
 use Rattle.std.specs.declared.option.Option.{Option}
 use Rattle.std.specs.declared.option.Option.the-variants.{Some, None}
 use Rattle.std.proofs.shelf.Tests.{cases-eq}
@@ -12,29 +12,32 @@ use Rattle.model.specs.declared.row.Row.{Row}
 use Rattle.model.specs.Schemes.{Scheme, Lawful, NoWorse}
 use Rattle.model.specs.Meaning.{Meaning, Well-formed}
 use Rattle.model.specs.Derivations.{Derivation, grade-of}
-use Rattle.model.specs.Settling.{Rows, filled, best, State, settle-by, step, settle, graded}
+use Rattle.model.specs.Settling.{Rows, State, filled, settle-by, step, settle, graded}
 use Rattle.model.specs.Grading.{Settled, Numbered, Worsens}
-use Rattle.model.proofs.Filled.{none-some, some-same}
-use Rattle.model.proofs.Knuth.{Sound, unsettled-beaten}
-use Rattle.model.proofs.Steps.{Taken, taken, new-row, at-new, extends, by-row, settled-sound, step-sound, getD-nones, fresh-sound}
+use Rattle.model.proofs.Filled.{none-some}
+use Rattle.model.proofs.Knuth.{Unsettled, next-offer, Sound}
+use Rattle.model.proofs.Steps.{Taken, taken, next-no-worse, new-row, at-new, extends, by-row}
+use Rattle.model.proofs.Steps.{settled-sound, step-sound, fresh, getD-nones, fresh-sound}
 
--- what holds of the turns and the grades at each step
+-- what holds of the turns and the grades at each step; no settled cell has a worse grade than a
+-- derivation of an unsettled one
 pub record Ordered {G : Type 0} (s : Scheme G) (h : Meaning) (st : State G) : Type 0 where
   pub numbered : Numbered (st .rows) (st .turn)
   pub worsens : Worsens s (st .rows)
   pub no-better-left : (a : ℕ) (x : Row G) → Settled (st .rows) a x → {c : ℕ} (d : Derivation h c)
-      → getD (st .rows) c None ≡ None → NoWorse s (x .grade) (grade-of s d)
+      → Unsettled (st .rows) c → NoWorse s (x .grade) (grade-of s d)
 
 module _ {G : Type 0} (s : Scheme G) (law : Lawful s) (h : Meaning) (wf : Well-formed h) where
   module _ (st : State G) (sound : Sound s h st) (old : Ordered s h st)
-      (o : Offer G) (is-best : best s h (st .rows) (filled (h .records)) ≡ Some o) where
+      (o : Offer G) (is-best : next-offer s h st ≡ Some o) where
+    -- the rows after the step that takes the offer
     abbrev next : Rows G
     next = settle-by st (Some o) .rows
 
     took : Taken s h st o
     took = taken s law h wf st sound o is-best
 
-    -- of a row of the new state: it is the new one, or it is an old one
+    -- a row of them is the new one or an old one
     by-new : (P : ℕ → Row G → Type 0) → P (o .cell) (new-row st o)
         → ((c : ℕ) (row : Row G) → Settled (st .rows) c row → P c row)
         → (c : ℕ) (row : Row G) → Settled next c row → P c row
@@ -61,6 +64,7 @@ module _ {G : Type 0} (s : Scheme G) (law : Lawful s) (h : Meaning) (wf : Well-f
         by-new (λ c row. (d : ℕ) (other : Row G) → Settled next d other → row .turn ≡ other .turn → c ≡ d)
         apart-new apart-old a x p b y q
 
+    -- no turn is left out
     every′ : (t : ℕ) → t < suc (st .turn) → (c : ℕ) × (row : Row G) × Settled next c row × (row .turn ≡ t)
     every′ t l = elim (cases-eq t (st .turn)) [
       | inl e ↦ (o .cell, new-row st o, at-new s law h wf st sound o took, sym e)
@@ -69,25 +73,20 @@ module _ {G : Type 0} (s : Scheme G) (law : Lawful s) (h : Meaning) (wf : Well-f
           (q .0, q .1, extends s law h wf st sound o took (q .0) (q .1) (q .2), q .3))
     ]
 
-    -- no derivation of a cell that stays unsettled beats the offer that is taken
-    taken-first : {c : ℕ} (d : Derivation h c) → getD (st .rows) c None ≡ None
-        → NoWorse s (o .grade) (grade-of s d)
-    taken-first d u =
-        let b = unsettled-beaten s law h wf st sound d u in
-        subst (λ (z : Offer G). NoWorse s (z .grade) (grade-of s d)) (some-same (b .1) is-best) (b .2)
-
-    was-unsettled : (c : ℕ) → getD next c None ≡ None → getD (st .rows) c None ≡ None
+    -- a cell that stays unsettled was unsettled: its derivations have no better grade than the
+    -- old rows, and no better one than the offer
+    was-unsettled : (c : ℕ) → Unsettled next c → Unsettled (st .rows) c
     was-unsettled c u = go (getD (st .rows) c None) refl
       where
-        go : (x : Option (Row G)) → getD (st .rows) c None ≡ x → getD (st .rows) c None ≡ None
+        go : (x : Option (Row G)) → getD (st .rows) c None ≡ x → Unsettled (st .rows) c
         go None e = e
         go (Some row) e = absurd (none-some u (extends s law h wf st sound o took c row e))
 
     no-better-left′ : (a : ℕ) (x : Row G) → Settled next a x → {c : ℕ} (d : Derivation h c)
-        → getD next c None ≡ None → NoWorse s (x .grade) (grade-of s d)
+        → Unsettled next c → NoWorse s (x .grade) (grade-of s d)
     no-better-left′ a x p {c} d u =
         by-new (λ _ row. NoWorse s (row .grade) (grade-of s d))
-        (taken-first d (was-unsettled c u))
+        (next-no-worse s law h wf st sound o is-best d (was-unsettled c u))
         (λ b row e. old .no-better-left b row e d (was-unsettled c u))
         a x p
 
@@ -114,6 +113,7 @@ module _ {G : Type 0} (s : Scheme G) (law : Lawful s) (h : Meaning) (wf : Well-f
         → row .turn < other .turn → NoWorse s (row .grade) (other .grade))
         worsens-new worsens-old a x p b y q
 
+    -- so the step keeps the order
     settled-ordered : Ordered s h (settle-by st (Some o))
     settled-ordered = record {
       numbered = record {
@@ -127,10 +127,9 @@ module _ {G : Type 0} (s : Scheme G) (law : Lawful s) (h : Meaning) (wf : Well-f
 
   step-ordered : (st : State G) → Sound s h st → Ordered s h st
       → Ordered s h (step s h (filled (h .records)) st)
-  step-ordered st sound old = go (best s h (st .rows) (filled (h .records))) refl
+  step-ordered st sound old = go (next-offer s h st) refl
     where
-      go : (x : Option (Offer G)) → best s h (st .rows) (filled (h .records)) ≡ x
-          → Ordered s h (settle-by st (best s h (st .rows) (filled (h .records))))
+      go : (x : Option (Offer G)) → next-offer s h st ≡ x → Ordered s h (settle-by st (next-offer s h st))
       go None e = rw e old
       go (Some o) e = rw e (settled-ordered st sound old o e)
 
@@ -143,7 +142,7 @@ module _ {G : Type 0} (s : Scheme G) (law : Lawful s) (h : Meaning) (wf : Well-f
       (step-sound s law h wf st sound) (step-ordered st sound old)
 
   -- at first no cell is settled
-  fresh-ordered : (n : ℕ) → Ordered s h (record { rows = replicate n None; turn = 0 })
+  fresh-ordered : (n : ℕ) → Ordered s h (fresh n)
   fresh-ordered n = record {
     numbered = record {
       below = λ c row p. absurd (none-some (getD-nones n c) p);
@@ -157,5 +156,4 @@ module _ {G : Type 0} (s : Scheme G) (law : Lawful s) (h : Meaning) (wf : Well-f
   pub graded-ordered : Ordered s h (graded s h)
   unfolding graded
   graded-ordered =
-      settle-ordered 1024 (record { rows = replicate 1024 None; turn = 0 })
-      (fresh-sound s law h wf 1024 refl) (fresh-ordered 1024)
+      settle-ordered 1024 (fresh 1024) (fresh-sound s law h wf 1024 refl) (fresh-ordered 1024)

@@ -1,3 +1,4 @@
+-- What is read so far, with the digits that are left, makes the number of all the digits.
 use Prim.Native.Nat.{_≤_}
 use mathlib.Core.Path.{_≡_}
 use lib.ListN.{drop}

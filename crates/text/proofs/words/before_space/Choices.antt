@@ -1,3 +1,4 @@
+-- The first word is as long as the bytes passed and what is left of it.
 use Prim.Native.Nat.{_+_}
 use mathlib.Core.Path.{_≡_}
 use lib.ListN.{length, drop}

@@ -1,6 +1,7 @@
+-- The words counted, with those of the rest of the line, are the words of the line and one more.
 use Prim.Native.Nat.{_+_, _≤_}
 use mathlib.Core.Path.{_≡_}
-use lib.ListN.{length, drop}
+use lib.ListN.{drop}
 use Rattle.text.specs.Words.{word-count}
 use Rattle.text.proofs.words.count_words.Given as given
 
