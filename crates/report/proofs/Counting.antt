@@ -19,12 +19,22 @@ more [] i l = absurd (omega arith)
 more (x ∷ xs) zero l = omega arith
 more (x ∷ xs) (suc i) l = omega (arith, more xs i (omega arith))
 
-module _ {A : Type 0} (xs : List (Option A)) (i n : ℕ) (l : i < length xs) (e : n ≡ count-filled (take i xs)) where
+module _ {A : Type 0} (xs : List (Option A)) (i n : ℕ) (l : i < length xs) (e : n ≡ count-filled
+    (take i xs)) where
   pub count-one : true ≡ isSome (getD xs i None) → n + 1 ≡ count-filled (take (i + 1) xs)
-  count-one f = rw (add-one i) (omega (arith, more xs i l ∙ ap (λ (t : Bool). count-filled (take i xs) + cond t 1 0) (sym f)))
+  count-one f = rw (add-one i) (omega (
+    arith,
+    more xs i l ∙ ap (λ (t : Bool). count-filled
+        (take i xs) + cond t 1 0) (sym f),
+  ))
 
   pub count-no : false ≡ isSome (getD xs i None) → n ≡ count-filled (take (i + 1) xs)
-  count-no f = rw (add-one i) (omega (arith, more xs i l ∙ ap (λ (t : Bool). count-filled (take i xs) + cond t 1 0) (sym f)))
+  count-no f = rw (add-one i) (omega (
+    arith,
+    more xs i l ∙ ap (λ (t : Bool). count-filled
+        (take i xs) + cond t 1 0) (sym f),
+  ))
 
-pub count-all : {A : Type 0} (xs : List (Option A)) (i n : ℕ) → length xs ≤ i → n ≡ count-filled (take i xs) → n ≡ count-filled xs
+pub count-all : {A : Type 0} (xs : List (Option A)) (i n : ℕ) → length xs ≤ i → n ≡ count-filled
+    (take i xs) → n ≡ count-filled xs
 count-all xs i n l e = e ∙ ap count-filled (take-all i xs l)

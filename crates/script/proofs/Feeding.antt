@@ -36,7 +36,8 @@ words-cap q = elim (cases-lt 81 (length q)) [
 obeyed-cap : (h : Meaning) (q : List ℕ) → obeyed h (take 81 q) ≡ obeyed h q
 obeyed-cap h q =
     ap {B = Result Command Refusal}
-    (λ (r : Result Reading Refusal). then r (λ w. then (command-in w) (λ c. placed w (answer (fault-of h c) c))))
+    (λ (r : Result Reading Refusal). then r (λ w. then (command-in w) (λ c. placed w (answer
+    (fault-of h c) c))))
     (words-cap q)
 
 answer-cap : (h : Meaning) (q : List ℕ) → answer-line h (take 81 q) ≡ answer-line h q
@@ -64,7 +65,8 @@ kept-cap h q b = ap (λ (l : List ℕ). record { heap = h; line = l }) (elim (ca
 ])
 
 -- a byte more in the buffer
-pub kept-more : (xs : List ℕ) (n b : ℕ) → length xs ≡ 81 → n < 81 → take (n + 1) (set xs n b) ≡ kept (take n xs) b
+pub kept-more : (xs : List ℕ) (n b : ℕ) → length xs ≡ 81 → n < 81 → take (n + 1) (set xs n b) ≡ kept
+    (take n xs) b
 kept-more xs n b w l =
     let e = length-take n xs in
     let t = lt-ltb (length (take n xs)) 81 (omega arith) in
@@ -79,7 +81,8 @@ begun-none : (ls : List (List ℕ)) → begun [] ls ≡ ls
 begun-none [] = refl
 begun-none (l ∷ ls) = refl
 
-begun-more : (q : List ℕ) (b : ℕ) (ls : List (List ℕ)) → begun (q ++ (b ∷ [])) ls ≡ begun q (onto-first b ls)
+begun-more : (q : List ℕ) (b : ℕ) (ls : List (List ℕ)) → begun (q ++ (b ∷ [])) ls ≡ begun q
+    (onto-first b ls)
 begun-more q b [] =
     let k = length-append q (b ∷ []) in
     let t = ne-eqb (length (q ++ (b ∷ []))) 0 (λ e. omega arith) in
@@ -104,7 +107,8 @@ ends h q = elim (cases-lt 0 (length q)) [
 
 -- a byte that ends the line, and any other
 feeds-end : (h : Meaning) (q bs : List ℕ) →
-    output (midst (heap-after h (take 81 q)) []) bs ≡ answers (heap-after h (take 81 q)) (begun [] (lines-of bs)) →
+    output (midst (heap-after h (take 81 q)) []) bs ≡ answers (heap-after h (take 81 q)) (begun []
+    (lines-of bs)) →
     line-answer (midst h q) ++ output (line-ended (midst h q)) bs ≡ answers h (begun q ([] ∷ lines-of bs))
 unfolding answers
 feeds-end h q bs ih =
@@ -119,13 +123,16 @@ feeds h q (b ∷ bs) =
     go (eqb b 10) (feeds (heap-after h (take 81 q)) [] bs) (feeds h (q ++ (b ∷ [])) bs)
   where
     go : (t : Bool) →
-        output (midst (heap-after h (take 81 q)) []) bs ≡ answers (heap-after h (take 81 q)) (begun [] (lines-of bs)) →
+        output (midst (heap-after h (take 81 q)) []) bs ≡ answers (heap-after h (take 81 q)) (begun []
+        (lines-of bs)) →
         output (midst h (q ++ (b ∷ []))) bs ≡ answers h (begun (q ++ (b ∷ [])) (lines-of bs)) →
-        cond t (line-answer (midst h q)) [] ++ output (cond t (line-ended (midst h q)) (with-byte (midst h q) b)) bs
+        cond t (line-answer (midst h q)) [] ++ output (cond t (line-ended (midst h q)) (with-byte
+        (midst h q) b)) bs
         ≡ answers h (begun q (cond t ([] ∷ lines-of bs) (onto-first b (lines-of bs))))
     go true i j = feeds-end h q bs i
     go false i j =
-        ap (λ (st : State). output st bs) (kept-cap h q b) ∙ (j ∙ ap (answers h) (begun-more q b (lines-of bs)))
+        ap (λ (st : State). output st bs) (kept-cap h q b) ∙ (j ∙ ap (answers h) (begun-more q b
+        (lines-of bs)))
 
 pub answers-each-line : (st : State) → st .line ≡ [] → Answers-each-line st
 answers-each-line st e input =

@@ -28,7 +28,8 @@ ok-same p = cc
 ok-err : {A E : Type 0} {x : A} {e : E} → _≡_ {A = Result A E} (Ok x) (Err e) → ⊥
 ok-err p = let z : _≡_ {A = ℕ} 0 1 = cc in omega arith
 
-module _ {G : Type 0} (show : G → List ℕ) (s : Scheme G) (law : Lawful s) (h : Meaning) (wf : Well-formed h) where
+module _ {G : Type 0} (show : G → List ℕ) (s : Scheme G) (law : Lawful s) (h : Meaning)
+    (wf : Well-formed h) where
   pub grading-printed : (rows after front : Rows G) (k : Counts) → Ok k ≡ grade-answer s h rows →
       after ≡ grade-after s h rows → front ≡ take 1024 after →
       graded-text show k front ≡ grading-text show s h rows
@@ -37,10 +38,12 @@ module _ {G : Type 0} (show : G → List ℕ) (s : Scheme G) (law : Lawful s) (h
       counts : Counts
       counts = record { settled = graded s h .turn; weighed = weighed s h }
 
-      go : (o : Option Fault) → Ok k ≡ answer o counts → after ≡ left o (graded s h .rows ++ drop 1024 rows) rows →
+      go : (o : Option Fault) → Ok k ≡ answer o counts → after ≡ left o
+          (graded s h .rows ++ drop 1024 rows) rows →
           graded-text show k front ≡ text-unless o (grades-text show s h)
       go None p q =
           let f : front ≡ graded s h .rows =
-          c ∙ (ap (take 1024) q ∙ take-at (graded s h .rows) (drop 1024 rows) 1024 (graded-done s law h wf .0 .wide)) in
+          c ∙ (ap (take 1024) q ∙ take-at (graded s h .rows) (drop 1024 rows) 1024
+          (graded-done s law h wf .0 .wide)) in
           ap₂ (graded-text show) (ok-same p) f
       go (Some e) p q = absurd (ok-err p)

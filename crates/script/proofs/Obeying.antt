@@ -37,30 +37,39 @@ module _ (h : Meaning) (line : List ℕ) (w : Reading) (c : Command)
   obeyed-is : obeyed h line ≡ placed w (answer (fault-of h c) c)
   obeyed-is = rw (sym k, sym m)
 
-  pub line-obeyed : (u v : Unit {0}) (p : Result (Unit {0}) Fault) → p ≡ answer (fault-of h c) u → Ok v ≡ placed w p →
+  pub line-obeyed : (u v : Unit {0}) (p : Result (Unit {0}) Fault) → p ≡ answer (fault-of h c) u →
+      Ok v ≡ placed w p →
       (Ok c ≡ obeyed h line) × (after-command h c ≡ heap-after h line)
   line-obeyed u v p e f = go (fault-of h c) refl
     where
       done : fault-of h c ≡ None → obeyed h line ≡ Ok c
       done q = obeyed-is ∙ (rw q)
 
-      go : (o : Option Fault) → fault-of h c ≡ o → (Ok c ≡ obeyed h line) × (after-command h c ≡ heap-after h line)
+      go : (o : Option Fault) → fault-of h c ≡ o →
+          (Ok c ≡ obeyed h line) × (after-command h c ≡ heap-after h line)
       go None q = (sym (done q), ap (after-if h) (sym (done q)))
-      go (Some g) q = absurd (ok-err (sym f) (ap (placed w) (e ∙ ap (λ (o : Option Fault). answer o u) q)))
+      go (Some g) q =
+          absurd (ok-err (sym f) (ap (placed w) (e ∙ ap (λ (o : Option Fault). answer o u) q)))
 
-  pub line-refused : (u : Unit {0}) (r : Refusal) (p : Result (Unit {0}) Fault) → p ≡ answer (fault-of h c) u → Err r ≡ placed w p →
+  pub line-refused : (u : Unit {0}) (r : Refusal) (p : Result (Unit {0}) Fault) →
+      p ≡ answer (fault-of h c) u → Err r ≡ placed w p →
       (Err r ≡ obeyed h line) × (after-command h c ≡ heap-after h line)
   line-refused u r p e f = go (fault-of h c) refl
     where
-      go : (o : Option Fault) → fault-of h c ≡ o → (Err r ≡ obeyed h line) × (after-command h c ≡ heap-after h line)
+      go : (o : Option Fault) → fault-of h c ≡ o →
+          (Err r ≡ obeyed h line) × (after-command h c ≡ heap-after h line)
       go None q = absurd (ok-err (ap (placed w) (e ∙ ap (λ (o : Option Fault). answer o u) q)) (sym f))
       go (Some g) q =
           let refused : obeyed h line ≡ placed w (Err g) = obeyed-is ∙ (rw q) in
-          let same = err-same (ap (placed w) (e ∙ ap (λ (o : Option Fault). answer o u) q)) (sym f) in
-          (ap {B = Result Command Refusal} Err (sym same) ∙ sym refused, fault-leaves h c g q ∙ ap (after-if h) (sym refused))
+          let same = err-same (ap (placed w) (e ∙ ap (λ (o : Option Fault). answer o u) q)) (sym f) in (
+            ap {B = Result Command Refusal} Err (sym same) ∙ sym refused,
+            fault-leaves h c g q ∙ ap
+                (after-if h) (sym refused),
+          )
 
 -- a command that prints more than ok changes nothing
-pub outcome-same : (h : Meaning) (r : Result Command Refusal) → outcome-text (after-if h r) r ≡ outcome-text h r
+pub outcome-same : (h : Meaning) (r : Result Command Refusal) → outcome-text
+    (after-if h r) r ≡ outcome-text h r
 outcome-same h (Ok (Put cell size)) = refl
 outcome-same h (Ok (Root number target)) = refl
 outcome-same h (Ok (Link number source target strength)) = refl
@@ -70,7 +79,8 @@ outcome-same h (Ok (Grade scheme)) = refl
 outcome-same h (Err r) = refl
 
 -- what is printed of the heap after the line is the answer to it
-pub outcome-printed : (h g : Meaning) (line : List ℕ) (r : Result Command Refusal) → r ≡ obeyed h line → g ≡ heap-after h line →
+pub outcome-printed : (h g : Meaning) (line : List ℕ) (r : Result Command Refusal) → r ≡ obeyed h line →
+    g ≡ heap-after h line →
     outcome-text g r ≡ outcome-text h (obeyed h line)
 outcome-printed h g line r e f =
     ap₂ outcome-text f e ∙ outcome-same h (obeyed h line)

@@ -19,15 +19,18 @@ use Rattle.text.proofs.Spelling.{and-then, as-text, full-then, full-front, full
 
 module _ {G : Type 0} (show : G → List ℕ) where
   rows-more : (c : ℕ) (xs : Rows G) (i : ℕ) → i < length xs →
-      rows-text show c (take (suc i) xs) ≡ rows-text show c (take i xs) ++ row-text-if show (c + i) (getD xs i None)
+      rows-text show c (take (suc i) xs) ≡ rows-text show c (take i xs) ++ row-text-if show (c + i)
+      (getD xs i None)
   unfolding rows-text
   rows-more c [] i l = absurd (omega arith)
   rows-more c (x ∷ xs) zero l =
       append-nil (row-text-if show c x) ∙ ap (λ (n : ℕ). row-text-if show n x) (omega arith)
   rows-more c (x ∷ xs) (suc i) l =
       ap (λ (t : List ℕ). row-text-if show c x ++ t) (rows-more (c + 1) xs i (omega arith))
-      ∙ (sym (append-assoc (row-text-if show c x) (rows-text show (c + 1) (take i xs)) (row-text-if show (c + 1 + i) (getD xs i None)))
-      ∙ ap (λ (n : ℕ). row-text-if show c x ++ rows-text show (c + 1) (take i xs) ++ row-text-if show n (getD xs i None)) (omega arith))
+      ∙ (sym (append-assoc (row-text-if show c x) (rows-text show (c + 1) (take i xs)) (row-text-if show
+      (c + 1 + i) (getD xs i None)))
+      ∙ ap (λ (n : ℕ). row-text-if show c x ++ rows-text show (c + 1) (take i xs) ++ row-text-if show n
+      (getD xs i None)) (omega arith))
 
   rows-split : (c : ℕ) (xs : Rows G) (i : ℕ) → i ≤ length xs →
       rows-text show c xs ≡ rows-text show c (take i xs) ++ rows-text show (c + i) (drop i xs)
@@ -36,12 +39,16 @@ module _ {G : Type 0} (show : G → List ℕ) where
   rows-split c [] (suc i) l = absurd (omega arith)
   rows-split c (x ∷ xs) (suc i) l =
       ap (λ (t : List ℕ). row-text-if show c x ++ t) (rows-split (c + 1) xs i (omega arith))
-      ∙ (sym (append-assoc (row-text-if show c x) (rows-text show (c + 1) (take i xs)) (rows-text show (c + 1 + i) (drop i xs)))
-      ∙ ap (λ (n : ℕ). row-text-if show c x ++ rows-text show (c + 1) (take i xs) ++ rows-text show n (drop i xs)) (omega arith))
+      ∙ (sym (append-assoc (row-text-if show c x) (rows-text show (c + 1) (take i xs)) (rows-text show
+      (c + 1 + i) (drop i xs)))
+      ∙ ap (λ (n : ℕ). row-text-if show c x ++ rows-text show (c + 1) (take i xs) ++ rows-text show n
+      (drop i xs)) (omega arith))
 
   module _ (xs : Rows G) (i : ℕ) (l : i < length xs) where
-    more : rows-text show 0 (take (i + 1) xs) ≡ rows-text show 0 (take i xs) ++ row-text-if show i (getD xs i None)
-    more = rw add-one (rows-more 0 xs i l ∙ ap (λ (n : ℕ). rows-text show 0 (take i xs) ++ row-text-if show n (getD xs i None)) (omega arith))
+    more : rows-text show 0 (take (i + 1) xs) ≡ rows-text show 0 (take i xs) ++ row-text-if show i
+        (getD xs i None)
+    more = rw add-one (rows-more 0 xs i l ∙ ap (λ (n : ℕ). rows-text show 0
+        (take i xs) ++ row-text-if show n (getD xs i None)) (omega arith))
 
     -- row i behind the rows before it
     pub row-more : {a b c : Vec ℕ Global} (o : Option (Row G)) → o ≡ getD xs i o →
@@ -49,15 +56,19 @@ module _ {G : Type 0} (show : G → List ℕ) where
         Wrote a (rows-text show 0 (take (i + 1) xs)) c
     row-more o e v w =
         let f : getD xs i None ≡ o = getD-default xs i None o l ∙ sym e in
-        as-text (sym (more ∙ ap (λ (x : Option (Row G)). rows-text show 0 (take i xs) ++ row-text-if show i x) f)) (and-then v w)
+        as-text (sym (more ∙ ap (λ (x : Option (Row G)). rows-text show 0
+        (take i xs) ++ row-text-if show i x) f)) (and-then v w)
 
     -- no room for row i is no room for all the rows
     pub row-full : {a b : Vec ℕ Global} (o : Option (Row G)) → o ≡ getD xs i o →
-        Wrote a (rows-text show 0 (take i xs)) b → Full b (row-text-if show i o) → Full a (rows-text show 0 xs)
+        Wrote a (rows-text show 0 (take i xs)) b → Full b (row-text-if show i o) → Full a
+        (rows-text show 0 xs)
     row-full {a} o e v f =
         let g : getD xs i None ≡ o = getD-default xs i None o l ∙ sym e in
-        let m : rows-text show 0 (take i xs) ++ row-text-if show i o ≡ rows-text show 0 (take (i + 1) xs) =
-        sym (more ∙ ap (λ (x : Option (Row G)). rows-text show 0 (take i xs) ++ row-text-if show i x) g) in
+        let m : rows-text show 0 (take i xs) ++ row-text-if show i o ≡ rows-text show 0 (take
+        (i + 1) xs) =
+        sym (more ∙ ap (λ (x : Option (Row G)). rows-text show 0
+        (take i xs) ++ row-text-if show i x) g) in
         full-as (sym (rows-split 0 xs (i + 1) (omega arith)))
         (full-front (rows-text show (0 + (i + 1)) (drop (i + 1) xs)) (full-as m (full-then v f)))
 

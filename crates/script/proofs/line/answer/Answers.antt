@@ -23,8 +23,10 @@ returns-in-Break-write-byte c =
     (c .obey-outcome .result) (c .obey-outcome .ensures .answers) (c .obey-outcome .ensures .leaves) in
     record {
       writes =
-          failed (c .from-residual-in-Break-write-byte .result) _ (c .from-residual-in-Break-write-byte .ensures .0)
-          (full-then (as-text e (c .in-Continue-print-outcome .ensures tt)) (c .in-Break-write-byte .ensures tt));
+          failed (c .from-residual-in-Break-write-byte .result) _
+          (c .from-residual-in-Break-write-byte .ensures .0)
+          (full-then (as-text e (c .in-Continue-print-outcome .ensures tt))
+          (c .in-Break-write-byte .ensures tt));
       leaves = c .obey-outcome .ensures .leaves;
     }
 
@@ -34,6 +36,7 @@ returns c =
     (meaning-of (c .args .heap .now)) (meaning-of (c .obey-outcome .last .heap)) (c .args .line .now)
     (c .obey-outcome .result) (c .obey-outcome .ensures .answers) (c .obey-outcome .ensures .leaves) in
     record {
-      writes = and-then (as-text e (c .in-Continue-print-outcome .ensures tt)) (c .in-Continue-write-byte .ensures tt);
+      writes = and-then (as-text e (c .in-Continue-print-outcome .ensures tt))
+          (c .in-Continue-write-byte .ensures tt);
       leaves = c .obey-outcome .ensures .leaves;
     }

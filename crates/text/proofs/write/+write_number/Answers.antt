@@ -6,7 +6,8 @@ use Rattle.text.proofs.write.+write_number.Needs as need
 
 pub returns-then-n-lt10 : need.returns-then-n-lt10
 returns-then-n-lt10 t c =
-    writes-as (c .write-byte .result) _ _ (one-digit (c .args .n) (c .if-n-lt10 .taken)) (c .write-byte .ensures)
+    writes-as (c .write-byte .result) _ _ (one-digit (c .args .n) (c .if-n-lt10 .taken))
+    (c .write-byte .ensures)
 
 pub returns-in-Break-write-number : need.returns-in-Break-write-number
 returns-in-Break-write-number t c =
@@ -16,7 +17,8 @@ returns-in-Break-write-number t c =
 
 pub returns-in-Break-write-byte : need.returns-in-Break-write-byte
 returns-in-Break-write-byte t c =
-    failed (c .from-residual-in-Break-write-byte .result) _ (c .from-residual-in-Break-write-byte .ensures .0)
+    failed (c .from-residual-in-Break-write-byte .result) _
+    (c .from-residual-in-Break-write-byte .ensures .0)
     (full-as (last-digit (c .args .n) (c .if-n-lt10 .left) (omega arith))
     (full-then (c .in-Continue-write-number .ensures tt) (c .in-Break-write-byte .ensures tt)))
 
