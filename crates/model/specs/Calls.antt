@@ -9,7 +9,8 @@ use Rattle.std.specs.Options.{isSome}
 use Rattle.std.specs.declared.option.Option.{Option}
 use Rattle.std.specs.declared.option.Option.the-variants.{Some, None}
 use Rattle.model.specs.declared.fault.Fault.{Fault}
-use Rattle.model.specs.declared.fault.Cause.the-variants.{CellNumber, CellFilled, CellSize, RecordNumber, RecordFilled, CellEmpty, StrengthNumber, RecordEmpty}
+use Rattle.model.specs.declared.fault.Cause.the-variants.{CellNumber, CellFilled, CellSize, CellEmpty}
+use Rattle.model.specs.declared.fault.Cause.the-variants.{RecordNumber, RecordFilled, RecordEmpty, StrengthNumber}
 use Rattle.model.specs.declared.record.Record.{Record}
 use Rattle.model.specs.declared.record.Record.the-variants.{Root, Link, Ephemeron}
 use Rattle.model.specs.Strengths.{strength-of}
@@ -26,11 +27,13 @@ cell-fault n place = unless (ltb n 1024) (fault CellNumber place)
 
 -- .. and the cell is filled
 abbrev pub filled-fault : Meaning → ℕ → ℕ → Option Fault
-filled-fault h n place = first (cell-fault n place) (unless (isSome (cell-at h n)) (fault CellEmpty place))
+filled-fault h n place =
+    first (cell-fault n place) (unless (isSome (cell-at h n)) (fault CellEmpty place))
 
 -- .. or empty
 abbrev pub empty-fault : Meaning → ℕ → ℕ → Option Fault
-empty-fault h n place = first (cell-fault n place) (unless (not (isSome (cell-at h n))) (fault CellFilled place))
+empty-fault h n place =
+    first (cell-fault n place) (unless (not (isSome (cell-at h n))) (fault CellFilled place))
 
 -- argument `place` is a size
 abbrev pub size-fault : ℕ → ℕ → Option Fault
@@ -42,11 +45,13 @@ record-fault r place = unless (ltb r 4096) (fault RecordNumber place)
 
 -- .. and the record is empty
 abbrev pub free-fault : Meaning → ℕ → ℕ → Option Fault
-free-fault h r place = first (record-fault r place) (unless (not (isSome (record-at h r))) (fault RecordFilled place))
+free-fault h r place =
+    first (record-fault r place) (unless (not (isSome (record-at h r))) (fault RecordFilled place))
 
 -- .. or filled
 abbrev pub held-fault : Meaning → ℕ → ℕ → Option Fault
-held-fault h r place = first (record-fault r place) (unless (isSome (record-at h r)) (fault RecordEmpty place))
+held-fault h r place =
+    first (record-fault r place) (unless (isSome (record-at h r)) (fault RecordEmpty place))
 
 -- argument `place` is a strength: 0 strong, 1 soft, 2 weak, 3 phantom
 abbrev pub strength-fault : ℕ → ℕ → Option Fault

@@ -42,9 +42,12 @@ pub record Lawful {G : Type 0} (s : Scheme G) : Type 0 where
   pub same-is-equal : (a b : G) → s .rank a b ≡ Same → a ≡ b
   pub equal-is-same : (a : G) → s .rank a a ≡ Same
   pub no-worse-carries : (a b c : G) → NoWorse s a b → NoWorse s b c → NoWorse s a c
-  pub along-never-better : (r n : ℕ) (a : G) (k : Strength) → Grade s a → NoWorse s a (s .along r n a k)
-  pub join-never-better-than-table : (r n : ℕ) (a b : G) → Grade s a → Grade s b → NoWorse s a (s .join r n a b)
-  pub join-never-better-than-key : (r n : ℕ) (a b : G) → Grade s a → Grade s b → NoWorse s b (s .join r n a b)
+  pub along-never-better : (r n : ℕ) (a : G) (k : Strength) → Grade s a →
+      NoWorse s a (s .along r n a k)
+  pub join-never-better-than-table : (r n : ℕ) (a b : G) → Grade s a → Grade s b →
+      NoWorse s a (s .join r n a b)
+  pub join-never-better-than-key : (r n : ℕ) (a b : G) → Grade s a → Grade s b →
+      NoWorse s b (s .join r n a b)
   pub along-keeps-order : (r n : ℕ) (a b : G) (k : Strength) → Grade s a → Grade s b →
       NoWorse s a b → NoWorse s (s .along r n a k) (s .along r n b k)
   pub join-keeps-order-of-tables : (r n : ℕ) (a b key : G) → Grade s a → Grade s b → Grade s key →

@@ -12,7 +12,8 @@ use Rattle.model.specs.Meaning.{Meaning}
 use Rattle.model.specs.Schemes.{Scheme}
 use Rattle.model.specs.Settling.{Rows, graded, weighed}
 use Rattle.model.specs.Grading.{rows-fault}
-use Rattle.model.specs.Calls.{put-fault, put-after, root-fault, root-after, link-fault, link-after, tie-fault, tie-after, erase-fault, erase-after}
+use Rattle.model.specs.Calls.{put-fault, root-fault, link-fault, tie-fault, erase-fault}
+use Rattle.model.specs.Calls.{put-after, root-after, link-after, tie-after, erase-after}
 use Rattle.schemes.specs.Strength.{by-strength}
 use Rattle.schemes.specs.Bytes.{by-bytes}
 use Rattle.schemes.specs.Depth.{by-depth}

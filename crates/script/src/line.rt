@@ -6,7 +6,8 @@ ghost use Rattle.model.specs.Faults.{answer as answered};
 ghost use Rattle.live.specs.Live.{meaning-of};
 ghost use Rattle.text.specs.Tokens.{reading-of};
 ghost use Rattle.text.specs.Writing.{Writes};
-ghost use Rattle.script.specs.Lines.{fault-of, after-command, placed, obeyed, heap-after, grading-text, outcome-text, answer-line};
+ghost use Rattle.script.specs.Lines.{fault-of, after-command, placed, obeyed, heap-after};
+ghost use Rattle.script.specs.Lines.{grading-text, outcome-text, answer-line};
 use crate::print::print_graded;
 use crate::print::print_refusal;
 use crate::show::BytesShown;
@@ -39,7 +40,9 @@ const CELLS: usize = 1024;
 // Does what a command asks of the heap.
 fn perform(heap: &mut LiveHeap, command: Command) -> Result<(), Fault>
     ensures answers { λ r. ⌜ r ≡ answered (fault-of (meaning-of (now (heap .entry))) command) tt ⌝ }
-    ensures leaves { λ _. ⌜ meaning-of (now (heap .exit)) ≡ after-command (meaning-of (now (heap .entry))) command ⌝ }
+    ensures leaves { λ _.
+        let h = meaning-of (now (heap .entry)) in
+        ⌜ meaning-of (now (heap .exit)) ≡ after-command h command ⌝ }
 {
     match command {
         Command::Put { cell, size } => heap.put(cell, size),
@@ -77,7 +80,9 @@ fn at_word<T>(result: Result<T, Fault>, words: &Words) -> Result<T, Refusal>
 // Obeys a line, and says which command it was.
 fn obey(heap: &mut LiveHeap, line: &[u8]) -> Result<Command, Refusal>
     ensures answers { λ r. ⌜ r ≡ obeyed (meaning-of (now (heap .entry))) (now (line .entry)) ⌝ }
-    ensures leaves { λ _. ⌜ meaning-of (now (heap .exit)) ≡ heap-after (meaning-of (now (heap .entry))) (now (line .entry)) ⌝ }
+    ensures leaves { λ _.
+        let h = meaning-of (now (heap .entry)) in
+        ⌜ meaning-of (now (heap .exit)) ≡ heap-after h (now (line .entry)) ⌝ }
 {
     let words = Words::of(line)?;
     let command = words.command()?;
@@ -105,7 +110,8 @@ where
     ensures { λ r.
         let s = S·Scheme .model (now (scheme .entry)) in
         let h = H·Heap .meaning (now (heap .entry)) in
-        ⌜ Writes r (now (out .entry)) (grading-text (Grade·Shown .text) s h (now (rows .entry))) (now (out .exit)) ⌝ }
+        let text = grading-text (Grade·Shown .text) s h (now (rows .entry)) in
+        ⌜ Writes r (now (out .entry)) text (now (out .exit)) ⌝ }
 {
     match grade(scheme, heap, rows) {
         Ok(counts) => print_graded(out, counts, first_rows(rows)),
@@ -119,7 +125,9 @@ fn print_outcome(
     heap: &LiveHeap,
     outcome: Result<Command, Refusal>,
 ) -> Result<(), AllocError>
-    ensures { λ r. ⌜ Writes r (now (out .entry)) (outcome-text (meaning-of (now (heap .entry))) outcome) (now (out .exit)) ⌝ }
+    ensures { λ r.
+        let h = meaning-of (now (heap .entry)) in
+        ⌜ Writes r (now (out .entry)) (outcome-text h outcome) (now (out .exit)) ⌝ }
 {
     match outcome {
         Ok(Command::Grade { scheme }) => match scheme {
@@ -135,8 +143,12 @@ fn print_outcome(
 // Obeys a line, and puts its answer behind what `out` holds. A refused line leaves
 // the heap alone.
 pub fn answer(heap: &mut LiveHeap, line: &[u8], out: &mut Vec<u8>) -> Result<(), AllocError>
-    ensures writes { λ r. ⌜ Writes r (now (out .entry)) (answer-line (meaning-of (now (heap .entry))) (now (line .entry))) (now (out .exit)) ⌝ }
-    ensures leaves { λ _. ⌜ meaning-of (now (heap .exit)) ≡ heap-after (meaning-of (now (heap .entry))) (now (line .entry)) ⌝ }
+    ensures writes { λ r.
+        let h = meaning-of (now (heap .entry)) in
+        ⌜ Writes r (now (out .entry)) (answer-line h (now (line .entry))) (now (out .exit)) ⌝ }
+    ensures leaves { λ _.
+        let h = meaning-of (now (heap .entry)) in
+        ⌜ meaning-of (now (heap .exit)) ≡ heap-after h (now (line .entry)) ⌝ }
 {
     let outcome = obey(heap, line);
     print_outcome(out, heap, outcome)?;

@@ -43,7 +43,9 @@ fn print_row<G: Shown>(out: &mut Vec<u8>, cell: u64, row: Option<Row<G>>) -> Res
 
 // The settled cells in their order.
 fn print_rows<G: Shown>(out: &mut Vec<u8>, rows: &[Option<Row<G>>]) -> Result<(), AllocError>
-    ensures { λ r. ⌜ Writes r (now (out .entry)) (rows-text (G·Shown .text) 0 (now (rows .entry))) (now (out .exit)) ⌝ }
+    ensures { λ r.
+        let text = rows-text (G·Shown .text) 0 (now (rows .entry)) in
+        ⌜ Writes r (now (out .entry)) text (now (out .exit)) ⌝ }
 {
     for cell in 0..rows.len() {
         print_row(out, cell as u64, rows[cell])?;
@@ -57,7 +59,9 @@ pub fn print_graded<G: Shown>(
     counts: Counts,
     rows: &[Option<Row<G>>],
 ) -> Result<(), AllocError>
-    ensures { λ r. ⌜ Writes r (now (out .entry)) (graded-text (G·Shown .text) counts (now (rows .entry))) (now (out .exit)) ⌝ }
+    ensures { λ r.
+        let text = graded-text (G·Shown .text) counts (now (rows .entry)) in
+        ⌜ Writes r (now (out .entry)) text (now (out .exit)) ⌝ }
 {
     write_text(out, b"ok ")?;
     write_number(out, counts.settled as u64)?;

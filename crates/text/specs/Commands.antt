@@ -42,7 +42,10 @@ number-in (other at) = refuse BadWord at
 -- s strong 0, f soft 1, w weak 2, p phantom 3
 abbrev pub strength-letter : ℕ → Option ℕ
 strength-letter b =
-    cond (eqb b 115) (Some 0) (cond (eqb b 102) (Some 1) (cond (eqb b 119) (Some 2) (cond (eqb b 112) (Some 3) None)))
+    cond (eqb b 115) (Some 0)
+    (cond (eqb b 102) (Some 1)
+    (cond (eqb b 119) (Some 2)
+    (cond (eqb b 112) (Some 3) None)))
 
 -- s strength, b bytes, d depth
 abbrev pub scheme-letter : ℕ → Option SchemeName

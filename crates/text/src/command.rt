@@ -1,7 +1,9 @@
 ghost use mathlib.Core.Path.{_≡_};
 ghost use Rattle.std.specs.declared.result.Result.the-variants.{Ok, Err};
 ghost use Rattle.text.specs.Tokens.{lexeme-of, reading-of};
-ghost use Rattle.text.specs.Commands.{wanted, number-in, strength-letter, scheme-letter, strength-in, scheme-in, counted, put-in, root-in, link-in, tie-in, erase-in, grade-in, command-in};
+ghost use Rattle.text.specs.Commands.{wanted, number-in, strength-letter, scheme-letter};
+ghost use Rattle.text.specs.Commands.{strength-in, scheme-in, counted, command-in};
+ghost use Rattle.text.specs.Commands.{put-in, root-in, link-in, tie-in, erase-in, grade-in};
 use crate::number::value;
 use crate::refusal::Refusal;
 use crate::refusal::refused;
