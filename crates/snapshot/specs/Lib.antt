@@ -1,2 +1,4 @@
 pub mod Numbers
 pub mod Sections
+pub mod Header
+pub mod Entries

@@ -1,2 +1,5 @@
+mod entries;
+mod faulty;
+mod header;
 mod numbers;
 mod section;

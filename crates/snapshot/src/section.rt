@@ -8,6 +8,12 @@ ghost use Rattle.std.specs.Options.{Cases as BySome};
 ghost use Rattle.snapshot.specs.Sections.{field, number, entries, rises, found, has, Sorted};
 use crate::numbers::u16_at;
 
+// How many bytes an entry has, by its kind.
+pub const CELL: usize = 8;
+pub const ROOT: usize = 4;
+pub const LINK: usize = 8;
+pub const EPHEMERON: usize = 8;
+
 // The field at byte `at` of entry `i`.
 pub fn field_at(section: &[u8], width: usize, i: usize, at: usize) -> u16
     requires { ⌜ i < entries width (now section) ⌝ ∗ ⌜ at + 2 ≤ width ⌝ }
