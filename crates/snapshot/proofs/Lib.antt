@@ -1,3 +1,4 @@
 pub mod Places
 pub mod Halving
 pub mod Heads
+pub mod Firsts

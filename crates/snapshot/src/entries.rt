@@ -121,3 +121,107 @@ fn check_root(cells: &[u8], roots: &[u8], start: u32, i: usize) -> Result<(), Fa
     }
     .check()
 }
+
+fn check_link(
+    cells: &[u8],
+    roots: &[u8],
+    links: &[u8],
+    start: u32,
+    i: usize,
+) -> Result<(), Fault>
+    requires { ⌜ i < entries 8 (now links) ⌝ ∗ ⌜ start + length (now links) ≤ 65536 ⌝ }
+    requires { ⌜ Sorted 8 (now cells) ⌝ ∗ ⌜ Sorted 4 (now roots) ⌝ }
+    ensures { λ r. ⌜ r ≡ answer
+        (link-entry-fault (now (cells .entry)) (now (roots .entry)) (now (links .entry)) start i) tt ⌝ }
+{
+    let number = field_at(links, LINK, i, 0);
+    let source = field_at(links, LINK, i, 2);
+    let target = field_at(links, LINK, i, 4);
+    let strength = field_at(links, LINK, i, 6);
+    Findings {
+        place: start + (LINK * i) as u32,
+        fits: link_fits(number, source, target, strength),
+        rises: in_order(links, LINK, i),
+        fresh: !contains(roots, ROOT, number),
+        present: contains(cells, CELL, source) && contains(cells, CELL, target),
+    }
+    .check()
+}
+
+fn check_ephemeron(
+    cells: &[u8],
+    roots: &[u8],
+    links: &[u8],
+    ephemerons: &[u8],
+    start: u32,
+    i: usize,
+) -> Result<(), Fault>
+    requires { ⌜ i < entries 8 (now ephemerons) ⌝ ∗ ⌜ start + length (now ephemerons) ≤ 65536 ⌝ }
+    requires { ⌜ Sorted 8 (now cells) ⌝ ∗ ⌜ Sorted 4 (now roots) ⌝ ∗ ⌜ Sorted 8 (now links) ⌝ }
+    ensures { λ r. ⌜ r ≡ answer (ephemeron-entry-fault
+        (now (cells .entry)) (now (roots .entry)) (now (links .entry)) (now (ephemerons .entry)) start i) tt ⌝ }
+{
+    let number = field_at(ephemerons, EPHEMERON, i, 0);
+    let table = field_at(ephemerons, EPHEMERON, i, 2);
+    let key = field_at(ephemerons, EPHEMERON, i, 4);
+    let value = field_at(ephemerons, EPHEMERON, i, 6);
+    Findings {
+        place: start + (EPHEMERON * i) as u32,
+        fits: ephemeron_fits(number, table, key, value),
+        rises: in_order(ephemerons, EPHEMERON, i),
+        fresh: !contains(roots, ROOT, number) && !contains(links, LINK, number),
+        present: contains(cells, CELL, table)
+            && contains(cells, CELL, key)
+            && contains(cells, CELL, value),
+    }
+    .check()
+}
+
+pub fn check_cells(cells: &[u8], start: u32) -> Result<(), Fault>
+    requires { ⌜ start + length (now cells) ≤ 65536 ⌝ }
+    ensures { λ r. ⌜ r ≡ answer (cells-fault (now (cells .entry)) start) tt ⌝ }
+{
+    for i in 0..cells.len() / CELL {
+        check_cell(cells, start, i)?;
+    }
+    Ok(())
+}
+
+pub fn check_roots(cells: &[u8], roots: &[u8], start: u32) -> Result<(), Fault>
+    requires { ⌜ start + length (now roots) ≤ 65536 ⌝ ∗ ⌜ Sorted 8 (now cells) ⌝ }
+    ensures { λ r. ⌜ r ≡ answer (roots-fault (now (cells .entry)) (now (roots .entry)) start) tt ⌝ }
+{
+    for i in 0..roots.len() / ROOT {
+        check_root(cells, roots, start, i)?;
+    }
+    Ok(())
+}
+
+pub fn check_links(cells: &[u8], roots: &[u8], links: &[u8], start: u32) -> Result<(), Fault>
+    requires { ⌜ start + length (now links) ≤ 65536 ⌝ ∗ ⌜ Sorted 8 (now cells) ⌝ ∗ ⌜ Sorted 4 (now roots) ⌝ }
+    ensures { λ r. ⌜ r ≡ answer
+        (links-fault (now (cells .entry)) (now (roots .entry)) (now (links .entry)) start) tt ⌝ }
+{
+    for i in 0..links.len() / LINK {
+        check_link(cells, roots, links, start, i)?;
+    }
+    Ok(())
+}
+
+pub fn check_ephemerons(
+    cells: &[u8],
+    roots: &[u8],
+    links: &[u8],
+    ephemerons: &[u8],
+    start: u32,
+) -> Result<(), Fault>
+    requires { ⌜ start + length (now ephemerons) ≤ 65536 ⌝ }
+    requires { ⌜ Sorted 8 (now cells) ⌝ ∗ ⌜ Sorted 4 (now roots) ⌝ ∗ ⌜ Sorted 8 (now links) ⌝ }
+    ensures { λ r. ⌜ r ≡ answer (ephemerons-fault
+        (now (cells .entry)) (now (roots .entry)) (now (links .entry)) (now (ephemerons .entry)) start) tt ⌝ }
+{
+    for i in 0..ephemerons.len() / EPHEMERON {
+        check_ephemeron(cells, roots, links, ephemerons, start, i)?;
+    }
+    Ok(())
+}
