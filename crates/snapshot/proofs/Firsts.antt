@@ -51,10 +51,6 @@ pub stops : (f : ℕ → Option Fault) (i n : ℕ) (x : Fault) → first-of f i 
     _≡_ {A = Result (Unit {0}) Fault} (Err x) (answer (first-of f n) tt)
 stops f i n x h e l = rw (first-at f i n x h (a-fault (f i) tt x e) l)
 
-pub ends : (f : ℕ → Option Fault) (i n : ℕ) → first-of f i ≡ None → i ≡ n →
-    _≡_ {A = Result (Unit {0}) Fault} (Ok tt) (answer (first-of f n) tt)
-ends f i n h e = rw (← e, h)
-
 -- no fault at all is none at any entry
 pub none-at : (f : ℕ → Option Fault) (n : ℕ) → first-of f n ≡ None → (k : ℕ) → k < n → f k ≡ None
 unfolding first-of

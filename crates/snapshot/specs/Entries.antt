@@ -17,7 +17,6 @@ use Rattle.model.specs.Meaning.{size-fits}
 use Rattle.snapshot.specs.declared.header.Layout.{Layout}
 use Rattle.snapshot.specs.Numbers.{u32-at}
 use Rattle.snapshot.specs.Sections.{field, number, entries, rises, has}
-use Rattle.snapshot.specs.Header.{section}
 
 -- within an entry: each field in its range, the number above the one before, the record
 -- in no earlier section, and each named cell among the file's
@@ -90,11 +89,10 @@ links-fault cs rs ls i = first-of (link-entry-fault cs rs ls i) (entries 8 ls)
 abbrev pub ephemerons-fault : List ℕ → List ℕ → List ℕ → List ℕ → ℕ → Option Fault
 ephemerons-fault cs rs ls es i = first-of (ephemeron-entry-fault cs rs ls es i) (entries 8 es)
 
--- the first fault of all entries of a file
-abbrev pub entries-fault : List ℕ → Layout → Option Fault
-entries-fault bs l =
-    first (cells-fault (section bs (l .cells)) (l .cells .offset))
-    (first (roots-fault (section bs (l .cells)) (section bs (l .roots)) (l .roots .offset))
-    (first (links-fault (section bs (l .cells)) (section bs (l .roots)) (section bs (l .links)) (l .links .offset))
-    (ephemerons-fault (section bs (l .cells)) (section bs (l .roots)) (section bs (l .links))
-        (section bs (l .ephemerons)) (l .ephemerons .offset))))
+-- the first fault of all entries of a file, by its sections
+abbrev pub entries-fault : Layout → List ℕ → List ℕ → List ℕ → List ℕ → Option Fault
+entries-fault l cs rs ls es =
+    first (cells-fault cs (l .cells .offset))
+    (first (roots-fault cs rs (l .roots .offset))
+    (first (links-fault cs rs ls (l .links .offset))
+    (ephemerons-fault cs rs ls es (l .ephemerons .offset))))

@@ -7,8 +7,9 @@ ghost use Rattle.snapshot.specs.Sections.{entries, Sorted};
 ghost use Rattle.snapshot.specs.Entries.{judged, cell-fits, root-fits, link-fits, ephemeron-fits};
 ghost use Rattle.snapshot.specs.Entries.{cell-entry-fault, root-entry-fault};
 ghost use Rattle.snapshot.specs.Entries.{link-entry-fault, ephemeron-entry-fault};
-ghost use Rattle.snapshot.specs.Entries.{cells-fault, roots-fault, links-fault, ephemerons-fault};
+ghost use Rattle.snapshot.specs.Entries.{cells-fault, roots-fault, links-fault, ephemerons-fault, entries-fault};
 use crate::faulty::faulty;
+use crate::header::Layout;
 use crate::numbers::u32_at;
 use crate::section::CELL;
 use crate::section::EPHEMERON;
@@ -177,7 +178,7 @@ fn check_ephemeron(
     .check()
 }
 
-pub fn check_cells(cells: &[u8], start: u32) -> Result<(), Fault>
+fn check_cells(cells: &[u8], start: u32) -> Result<(), Fault>
     requires { ⌜ start + length (now cells) ≤ 65536 ⌝ }
     ensures { λ r. ⌜ r ≡ answer (cells-fault (now (cells .entry)) start) tt ⌝ }
 {
@@ -187,7 +188,7 @@ pub fn check_cells(cells: &[u8], start: u32) -> Result<(), Fault>
     Ok(())
 }
 
-pub fn check_roots(cells: &[u8], roots: &[u8], start: u32) -> Result<(), Fault>
+fn check_roots(cells: &[u8], roots: &[u8], start: u32) -> Result<(), Fault>
     requires { ⌜ start + length (now roots) ≤ 65536 ⌝ ∗ ⌜ Sorted 8 (now cells) ⌝ }
     ensures { λ r. ⌜ r ≡ answer (roots-fault (now (cells .entry)) (now (roots .entry)) start) tt ⌝ }
 {
@@ -197,7 +198,7 @@ pub fn check_roots(cells: &[u8], roots: &[u8], start: u32) -> Result<(), Fault>
     Ok(())
 }
 
-pub fn check_links(cells: &[u8], roots: &[u8], links: &[u8], start: u32) -> Result<(), Fault>
+fn check_links(cells: &[u8], roots: &[u8], links: &[u8], start: u32) -> Result<(), Fault>
     requires { ⌜ start + length (now links) ≤ 65536 ⌝ ∗ ⌜ Sorted 8 (now cells) ⌝ ∗ ⌜ Sorted 4 (now roots) ⌝ }
     ensures { λ r. ⌜ r ≡ answer
         (links-fault (now (cells .entry)) (now (roots .entry)) (now (links .entry)) start) tt ⌝ }
@@ -208,7 +209,7 @@ pub fn check_links(cells: &[u8], roots: &[u8], links: &[u8], start: u32) -> Resu
     Ok(())
 }
 
-pub fn check_ephemerons(
+fn check_ephemerons(
     cells: &[u8],
     roots: &[u8],
     links: &[u8],
@@ -224,4 +225,25 @@ pub fn check_ephemerons(
         check_ephemeron(cells, roots, links, ephemerons, start, i)?;
     }
     Ok(())
+}
+
+// All entries of a file, whose sections lie where the layout says.
+pub fn check_entries(
+    layout: Layout,
+    cells: &[u8],
+    roots: &[u8],
+    links: &[u8],
+    ephemerons: &[u8],
+) -> Result<(), Fault>
+    requires { ⌜ layout .cells .offset + length (now cells) ≤ 65536 ⌝ }
+    requires { ⌜ layout .roots .offset + length (now roots) ≤ 65536 ⌝ }
+    requires { ⌜ layout .links .offset + length (now links) ≤ 65536 ⌝ }
+    requires { ⌜ layout .ephemerons .offset + length (now ephemerons) ≤ 65536 ⌝ }
+    ensures { λ r. ⌜ r ≡ answer (entries-fault layout
+        (now (cells .entry)) (now (roots .entry)) (now (links .entry)) (now (ephemerons .entry))) tt ⌝ }
+{
+    check_cells(cells, layout.cells.offset)?;
+    check_roots(cells, roots, layout.roots.offset)?;
+    check_links(cells, roots, links, layout.links.offset)?;
+    check_ephemerons(cells, roots, links, ephemerons, layout.ephemerons.offset)
 }

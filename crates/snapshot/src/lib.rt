@@ -1,5 +1,7 @@
 mod entries;
 mod faulty;
 mod header;
+mod lookup;
 mod numbers;
 mod section;
+pub mod snapshot;
