@@ -5,3 +5,4 @@ pub mod Firsts
 pub mod Order
 pub mod Tables
 pub mod Shown
+pub mod Opened

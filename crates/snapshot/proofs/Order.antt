@@ -16,7 +16,7 @@ use Rattle.snapshot.specs.Entries.{cell-entry-fault, root-entry-fault, link-en
 use Rattle.snapshot.specs.Entries.{cells-fault, roots-fault, links-fault, ephemerons-fault}
 use Rattle.snapshot.proofs.Firsts.{first-none, none-at}
 
-unless-none : (b : Bool) (f : Fault) → unless b f ≡ None → b ≡ true
+pub unless-none : (b : Bool) (f : Fault) → unless b f ≡ None → b ≡ true
 unless-none true f e = refl
 unless-none false f e = cc
 
@@ -30,9 +30,9 @@ pub record Passed (fits rising fresh present : Bool) : Type 0 where
 pub passed : (place : ℕ) (a b c d : Bool) → judged place a b c d ≡ None → Passed a b c d
 passed place a b c d e =
     let p = first-none (unless a (fault FieldRange place)) (first (unless b (fault NumberOrder place))
-      (first (unless c (fault RecordTwice place)) (unless d (fault CellMissing place)))) e in
+    (first (unless c (fault RecordTwice place)) (unless d (fault CellMissing place)))) e in
     let q = first-none (unless b (fault NumberOrder place))
-      (first (unless c (fault RecordTwice place)) (unless d (fault CellMissing place))) (p .1) in
+    (first (unless c (fault RecordTwice place)) (unless d (fault CellMissing place))) (p .1) in
     let r = first-none (unless c (fault RecordTwice place)) (unless d (fault CellMissing place)) (q .1) in
     record {
       in-range = unless-none a (fault FieldRange place) (p .0);

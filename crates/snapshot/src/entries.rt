@@ -22,8 +22,11 @@ use model::fault::Cause;
 use model::fault::Fault;
 
 const CELLS: u16 = 1024;
+
 const RECORDS: u16 = 4096;
+
 const STRENGTHS: u16 = 4;
+
 const LARGEST_SIZE: u32 = 1048576;
 
 fn cell_fits(number: u16, zero: u16, size: u32) -> bool
@@ -103,8 +106,7 @@ fn check_cell(cells: &[u8], start: u32, i: usize) -> Result<(), Fault>
         rises: in_order(cells, CELL, i),
         fresh: true,
         present: true,
-    }
-    .check()
+    }.check()
 }
 
 fn check_root(cells: &[u8], roots: &[u8], start: u32, i: usize) -> Result<(), Fault>
@@ -119,17 +121,10 @@ fn check_root(cells: &[u8], roots: &[u8], start: u32, i: usize) -> Result<(), Fa
         rises: in_order(roots, ROOT, i),
         fresh: true,
         present: contains(cells, CELL, target),
-    }
-    .check()
+    }.check()
 }
 
-fn check_link(
-    cells: &[u8],
-    roots: &[u8],
-    links: &[u8],
-    start: u32,
-    i: usize,
-) -> Result<(), Fault>
+fn check_link(cells: &[u8], roots: &[u8], links: &[u8], start: u32, i: usize) -> Result<(), Fault>
     requires { ⌜ i < entries 8 (now links) ⌝ ∗ ⌜ start + length (now links) ≤ 65536 ⌝ }
     requires { ⌜ Sorted 8 (now cells) ⌝ ∗ ⌜ Sorted 4 (now roots) ⌝ }
     ensures { λ r. ⌜ r ≡ answer
@@ -145,8 +140,7 @@ fn check_link(
         rises: in_order(links, LINK, i),
         fresh: !contains(roots, ROOT, number),
         present: contains(cells, CELL, source) && contains(cells, CELL, target),
-    }
-    .check()
+    }.check()
 }
 
 fn check_ephemeron(
@@ -174,8 +168,7 @@ fn check_ephemeron(
         present: contains(cells, CELL, table)
             && contains(cells, CELL, key)
             && contains(cells, CELL, value),
-    }
-    .check()
+    }.check()
 }
 
 fn check_cells(cells: &[u8], start: u32) -> Result<(), Fault>

@@ -21,8 +21,11 @@ const LONGEST: usize = 65536;
 
 // The bytes where the pairs begin.
 const CELLS_PAIR: u32 = 4;
+
 const ROOTS_PAIR: u32 = 12;
+
 const LINKS_PAIR: u32 = 20;
+
 const EPHEMERONS_PAIR: u32 = 28;
 
 // Where a section starts in the file, and how many bytes it has.

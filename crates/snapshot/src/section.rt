@@ -10,8 +10,11 @@ use crate::numbers::u16_at;
 
 // How many bytes an entry has, by its kind.
 pub const CELL: usize = 8;
+
 pub const ROOT: usize = 4;
+
 pub const LINK: usize = 8;
+
 pub const EPHEMERON: usize = 8;
 
 // The field at byte `at` of entry `i`.

@@ -6,6 +6,7 @@ use model::heap::Heap;
 use model::record::Record;
 
 const CELLS: u32 = 1024;
+
 const RECORDS: u32 = 4096;
 
 pub impl<'a> Heap for Snapshot<'a> as SnapshotAnswers {

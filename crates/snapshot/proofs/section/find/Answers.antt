@@ -23,7 +23,7 @@ returns-then-number-n c =
     let is : num m ≡ c .args .n = omega arith in
     record {
       which = sym (which-at num (c .args .n) count m within is
-        (λ j a b. omega (arith, rising-past num count (c .pre .1) m j a b)));
+          (λ j a b. omega (arith, rising-past num count (c .pre .1) m j a b)));
       within = within;
     }
 
@@ -32,20 +32,22 @@ loop-low-again-then-number-n-2 c =
     let num : ℕ → ℕ = number (c .args .width) (c .args .section .now) in
     let count : ℕ = entries (c .args .width) (c .args .section .now) in
     let m : ℕ = c .loop-low .low + (c .loop-low .high - c .loop-low .low) / 2 in
-    let within : m < count = omega arith in
-    ( omega arith
-    , (λ j l. omega (arith, rising-to num count (c .pre .1) j m (omega arith) within))
-    , c .loop-low .inv .2 )
+    let within : m < count = omega arith in (
+      omega arith,
+      (λ j l. omega (arith, rising-to num count (c .pre .1) j m (omega arith) within)),
+      c .loop-low .inv .2,
+    )
 
 pub loop-low-again : need.loop-low-again
 loop-low-again c =
     let num : ℕ → ℕ = number (c .args .width) (c .args .section .now) in
     let count : ℕ = entries (c .args .width) (c .args .section .now) in
     let m : ℕ = c .loop-low .low + (c .loop-low .high - c .loop-low .low) / 2 in
-    let above : c .args .n < num m = omega arith in
-    ( omega arith
-    , c .loop-low .inv .1
-    , (λ j a b. omega (arith, rising-to num count (c .pre .1) m j a b)) )
+    let above : c .args .n < num m = omega arith in (
+      omega arith,
+      c .loop-low .inv .1,
+      (λ j a b. omega (arith, rising-to num count (c .pre .1) m j a b)),
+    )
 
 pub returns : need.returns
 returns c =
@@ -53,7 +55,7 @@ returns c =
     let count : ℕ = entries (c .args .width) (c .args .section .now) in
     record {
       which = sym (which-none num (c .args .n) count
-        (λ j l e. neither j (c .loop-low .low) (num j) (c .args .n)
+          (λ j l e. neither j (c .loop-low .low) (num j) (c .args .n)
           (c .loop-low .inv .1 j) (λ a. c .loop-low .inv .2 j (omega arith) l) e));
       within = tt;
     }
