@@ -62,7 +62,7 @@ impl Pair {
     }
 
     // The bytes of the section.
-    pub fn cut(self, bytes: &[u8]) -> &[u8]
+    pub(crate) fn cut(self, bytes: &[u8]) -> &[u8]
         requires { ⌜ end self ≤ length (now bytes) ⌝ }
         ensures { λ r. ⌜ now r ≡ section (now (bytes .entry)) self ⌝ }
     {

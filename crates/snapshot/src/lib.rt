@@ -1,4 +1,5 @@
 mod entries;
+mod entry;
 mod faulty;
 mod header;
 mod lookup;

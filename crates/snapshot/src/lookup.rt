@@ -14,7 +14,7 @@ use model::record::Record;
 use model::record::Strength;
 
 // The size of cell `n`.
-pub fn cell_in(cells: &[u8], n: u16) -> Option<u32>
+pub(crate) fn cell_in(cells: &[u8], n: u16) -> Option<u32>
     requires { ⌜ Sorted 8 (now cells) ⌝ }
     ensures { λ r. ⌜ r ≡ cell-in (now (cells .entry)) n ⌝ }
 {
@@ -69,7 +69,7 @@ fn ephemeron_in(ephemerons: &[u8], n: u16) -> Option<Record>
 }
 
 // Record `n`, which stands in one section only.
-pub fn record_in(roots: &[u8], links: &[u8], ephemerons: &[u8], n: u16) -> Option<Record>
+pub(crate) fn record_in(roots: &[u8], links: &[u8], ephemerons: &[u8], n: u16) -> Option<Record>
     requires { ⌜ Sorted 4 (now roots) ⌝ ∗ ⌜ Sorted 8 (now links) ⌝ ∗ ⌜ Sorted 8 (now ephemerons) ⌝ }
     ensures { λ r. ⌜ r ≡ record-in (now (roots .entry)) (now (links .entry)) (now (ephemerons .entry)) n ⌝ }
 {

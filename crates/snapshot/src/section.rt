@@ -18,7 +18,7 @@ pub const LINK: usize = 8;
 pub const EPHEMERON: usize = 8;
 
 // The field at byte `at` of entry `i`.
-pub fn field_at(section: &[u8], width: usize, i: usize, at: usize) -> u16
+pub(crate) fn field_at(section: &[u8], width: usize, i: usize, at: usize) -> u16
     requires { ⌜ i < entries width (now section) ⌝ ∗ ⌜ at + 2 ≤ width ⌝ }
     ensures { λ r. ⌜ r ≡ field width (now (section .entry)) i at ⌝ }
 {
@@ -26,7 +26,7 @@ pub fn field_at(section: &[u8], width: usize, i: usize, at: usize) -> u16
 }
 
 // Whether entry `i` has a number above that of the entry before.
-pub fn in_order(section: &[u8], width: usize, i: usize) -> bool
+pub(crate) fn in_order(section: &[u8], width: usize, i: usize) -> bool
     requires { ⌜ i < entries width (now section) ⌝ ∗ ⌜ 2 ≤ width ⌝ }
     ensures { λ r. ⌜ r ≡ rises (number width (now (section .entry))) i ⌝ }
 {
@@ -34,7 +34,7 @@ pub fn in_order(section: &[u8], width: usize, i: usize) -> bool
 }
 
 // Which entry of a sorted section has number `n`.
-pub fn find(section: &[u8], width: usize, n: u16) -> Option<usize>
+pub(crate) fn find(section: &[u8], width: usize, n: u16) -> Option<usize>
     requires { ⌜ 2 ≤ width ⌝ ∗ ⌜ Sorted width (now section) ⌝ }
     ensures which { λ r. ⌜ r ≡ found width (now (section .entry)) n ⌝ }
     ensures within { λ r. ⌜ BySome r (Unit {0}) (λ k. k < entries width (now (section .entry))) ⌝ }
@@ -56,7 +56,7 @@ pub fn find(section: &[u8], width: usize, n: u16) -> Option<usize>
     None
 }
 
-pub fn contains(section: &[u8], width: usize, n: u16) -> bool
+pub(crate) fn contains(section: &[u8], width: usize, n: u16) -> bool
     requires { ⌜ 2 ≤ width ⌝ ∗ ⌜ Sorted width (now section) ⌝ }
     ensures { λ r. ⌜ r ≡ has width (now (section .entry)) n ⌝ }
 {
