@@ -6,9 +6,10 @@ use Rattle.std.specs.declared.option.Option.the-variants.{Some, None}
 use Rattle.std.specs.declared.result.Result.{Result}
 use Rattle.std.specs.declared.result.Result.the-variants.{Ok, Err}
 use Rattle.model.specs.declared.fault.Layer.{Layer}
-use Rattle.model.specs.declared.fault.Layer.the-variants.{Text, Heap}
+use Rattle.model.specs.declared.fault.Layer.the-variants.{Text, Heap, File}
 use Rattle.model.specs.declared.fault.Cause.{Cause}
 use Rattle.model.specs.declared.fault.Cause.the-variants.{CellNumber, CellFilled, CellSize, RecordNumber, RecordFilled, CellEmpty, StrengthNumber, RecordEmpty, RowsShort, LimitNumber, LineLong, NoCommand, WordCount, BadWord}
+use Rattle.model.specs.declared.fault.Cause.the-variants.{FileLength, LeadBytes, SectionPlace, SectionLength, FieldRange, NumberOrder, RecordTwice, CellMissing}
 use Rattle.model.specs.declared.fault.Fault.{Fault}
 
 -- the number of each cause: the one table of them
@@ -23,12 +24,20 @@ number-of StrengthNumber = 7
 number-of RecordEmpty = 8
 number-of RowsShort = 9
 number-of LimitNumber = 13
+number-of FileLength = 20
+number-of LeadBytes = 21
+number-of SectionPlace = 22
+number-of SectionLength = 23
+number-of FieldRange = 24
+number-of NumberOrder = 25
+number-of RecordTwice = 26
+number-of CellMissing = 27
 number-of LineLong = 30
 number-of NoCommand = 31
 number-of WordCount = 32
 number-of BadWord = 33
 
--- 30 and above are the text's, the others the heap's
+-- 30 and above are the text's, 20 to 27 the file's, the others the heap's
 abbrev pub layer-of : Cause → Layer
 layer-of CellNumber = Heap
 layer-of CellFilled = Heap
@@ -40,15 +49,24 @@ layer-of StrengthNumber = Heap
 layer-of RecordEmpty = Heap
 layer-of RowsShort = Heap
 layer-of LimitNumber = Heap
+layer-of FileLength = File
+layer-of LeadBytes = File
+layer-of SectionPlace = File
+layer-of SectionLength = File
+layer-of FieldRange = File
+layer-of NumberOrder = File
+layer-of RecordTwice = File
+layer-of CellMissing = File
 layer-of LineLong = Text
 layer-of NoCommand = Text
 layer-of WordCount = Text
 layer-of BadWord = Text
 
--- t and h
+-- t, h and f
 abbrev pub letter-of : Layer → ℕ
 letter-of Text = 116
 letter-of Heap = 104
+letter-of File = 102
 
 abbrev pub fault : Cause → ℕ → Fault
 fault c p = record { cause = c; place = p }

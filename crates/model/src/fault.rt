@@ -1,11 +1,13 @@
 ghost use mathlib.Core.Path.{_≡_};
 ghost use Rattle.model.specs.Faults.{layer-of, number-of, letter-of};
 
-// Who a fault speaks of: the one who wrote the text, or the one who called the heap.
+// Who a fault speaks of: the one who wrote the text, the one who called the heap,
+// or the one who saved the file.
 #[derive(Clone, Copy, PartialEq, Eq, Debug)]
 pub enum Layer {
     Text,
     Heap,
+    File,
 }
 
 impl Layer {
@@ -16,6 +18,7 @@ impl Layer {
         match self {
             Layer::Text => b't',
             Layer::Heap => b'h',
+            Layer::File => b'f',
         }
     }
 }
@@ -43,6 +46,22 @@ pub enum Cause {
     RowsShort,
     // a limit made of a number that is no grade
     LimitNumber,
+    // a file of fewer than 36 or more than 65,536 bytes
+    FileLength,
+    // a file that does not open with its four lead bytes
+    LeadBytes,
+    // a section that does not start where the one before ends, or does not end with the file
+    SectionPlace,
+    // a section whose length is no multiple of its entries' length
+    SectionLength,
+    // a field outside its range
+    FieldRange,
+    // an entry's number that is not above the one before
+    NumberOrder,
+    // a record number that an earlier section has
+    RecordTwice,
+    // an entry names a cell that the file does not have
+    CellMissing,
     // a line over 80 bytes
     LineLong,
     // a first word that is no command
@@ -59,6 +78,14 @@ impl Cause {
     {
         match self {
             Cause::LineLong | Cause::NoCommand | Cause::WordCount | Cause::BadWord => Layer::Text,
+            Cause::FileLength
+            | Cause::LeadBytes
+            | Cause::SectionPlace
+            | Cause::SectionLength
+            | Cause::FieldRange
+            | Cause::NumberOrder
+            | Cause::RecordTwice
+            | Cause::CellMissing => Layer::File,
             _ => Layer::Heap,
         }
     }
@@ -77,6 +104,14 @@ impl Cause {
             Cause::RecordEmpty => 8,
             Cause::RowsShort => 9,
             Cause::LimitNumber => 13,
+            Cause::FileLength => 20,
+            Cause::LeadBytes => 21,
+            Cause::SectionPlace => 22,
+            Cause::SectionLength => 23,
+            Cause::FieldRange => 24,
+            Cause::NumberOrder => 25,
+            Cause::RecordTwice => 26,
+            Cause::CellMissing => 27,
             Cause::LineLong => 30,
             Cause::NoCommand => 31,
             Cause::WordCount => 32,
@@ -87,7 +122,8 @@ impl Cause {
 
 // A refusal: its cause, which has a layer and a number, and its place.
 // On the heap's layer the place is the argument, counted from 1, and 0 for
-// working memory; on the text's layer it is the byte of the line, from 0.
+// working memory; on the text's layer it is the byte of the line, from 0; on the
+// file's layer it is the byte of the file, from 0.
 #[derive(Clone, Copy, PartialEq, Eq, Debug)]
 pub struct Fault {
     pub cause: Cause,
