@@ -1,1 +1,2 @@
 pub mod Count
+pub mod Inspect

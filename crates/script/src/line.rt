@@ -7,7 +7,7 @@ ghost use Rattle.live.specs.Live.{meaning-of};
 ghost use Rattle.text.specs.Tokens.{reading-of};
 ghost use Rattle.text.specs.Writing.{Writes};
 ghost use Rattle.script.specs.Lines.{fault-of, after-command, placed, obeyed, heap-after};
-ghost use Rattle.script.specs.Lines.{grading-text, outcome-text, answer-line};
+ghost use Rattle.script.specs.Lines.{grading-text, scheme-text, outcome-text, answer-line};
 use crate::print::print_graded;
 use crate::print::print_refusal;
 use crate::show::BytesShown;
@@ -119,6 +119,19 @@ where
     }
 }
 
+// Grades the heap under the scheme that is named, and prints what was found.
+pub fn print_scheme<H: Heap>(out: &mut Vec<u8>, heap: &H, scheme: SchemeName) -> Result<(), AllocError>
+    ensures { λ r.
+        let text = scheme-text scheme (H·Heap .meaning (now (heap .entry))) in
+        ⌜ Writes r (now (out .entry)) text (now (out .exit)) ⌝ }
+{
+    match scheme {
+        SchemeName::Strength => print_grades(out, &ByStrength, heap, &mut [None; CELLS]),
+        SchemeName::Bytes => print_grades(out, &ByBytes, heap, &mut [None; CELLS]),
+        SchemeName::Depth => print_grades(out, &ByDepth, heap, &mut [None; CELLS]),
+    }
+}
+
 // Prints what came of a line. Grading changes nothing, so it is done here.
 fn print_outcome(
     out: &mut Vec<u8>,
@@ -130,11 +143,7 @@ fn print_outcome(
         ⌜ Writes r (now (out .entry)) (outcome-text h outcome) (now (out .exit)) ⌝ }
 {
     match outcome {
-        Ok(Command::Grade { scheme }) => match scheme {
-            SchemeName::Strength => print_grades(out, &ByStrength, heap, &mut [None; CELLS]),
-            SchemeName::Bytes => print_grades(out, &ByBytes, heap, &mut [None; CELLS]),
-            SchemeName::Depth => print_grades(out, &ByDepth, heap, &mut [None; CELLS]),
-        },
+        Ok(Command::Grade { scheme }) => print_scheme(out, heap, scheme),
         Ok(_) => write_text(out, b"ok"),
         Err(refusal) => print_refusal(out, refusal),
     }
