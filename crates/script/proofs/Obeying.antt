@@ -2,7 +2,6 @@
 use Prim.Native.Nat.{ℕ}
 use mathlib.Core.Path.{_≡_, refl, sym, ap, ap₂, _∙_}
 use mathlib.Core.List.{List}
-use native.Mathlib.Omega.{arith}
 use Rattle.std.specs.declared.option.Option.{Option}
 use Rattle.std.specs.declared.option.Option.the-variants.{Some, None}
 use Rattle.std.specs.declared.result.Result.{Result}
@@ -16,12 +15,7 @@ use Rattle.text.specs.declared.command.Command.the-variants.{Put, Root, Link, T
 use Rattle.text.specs.Words.{Reading}
 use Rattle.text.specs.Commands.{words-in, command-in}
 use Rattle.script.specs.Lines.{fault-of, after-command, after-if, placed, obeyed, heap-after, outcome-text}
-
-ok-err : {A E : Type 0} {r : Result A E} {x : A} {e : E} → r ≡ Ok x → r ≡ Err e → ⊥
-ok-err p q = let z : _≡_ {A = ℕ} 0 1 = cc in omega arith
-
-err-same : {A E : Type 0} {r : Result A E} {d e : E} → r ≡ Err d → r ≡ Err e → d ≡ e
-err-same p q = cc
+use Rattle.script.proofs.Results.{ok-err, err-same}
 
 -- a command with a fault leaves the heap alone
 fault-leaves : (h : Meaning) (c : Command) (f : Fault) → fault-of h c ≡ Some f → after-command h c ≡ h
@@ -32,35 +26,40 @@ fault-leaves h (Tie number table key value) f e = rw e
 fault-leaves h (Erase number) f e = rw e
 fault-leaves h (Grade scheme) f e = refl
 
+-- the line's words make the command c, and p is what the heap answers to it
 module _ (h : Meaning) (line : List ℕ) (w : Reading) (c : Command)
-    (k : Ok w ≡ words-in line) (m : Ok c ≡ command-in w) where
-  obeyed-is : obeyed h line ≡ placed w (answer (fault-of h c) c)
-  obeyed-is = rw (sym k, sym m)
+    (k : Ok w ≡ words-in line) (m : Ok c ≡ command-in w)
+    (p : Result (Unit {0}) Fault) (e : p ≡ answer (fault-of h c) tt) where
+  abbrev Leaves : Type 0
+  Leaves = after-command h c ≡ heap-after h line
 
-  pub line-obeyed : (u v : Unit {0}) (p : Result (Unit {0}) Fault) → p ≡ answer (fault-of h c) u → Ok v ≡ placed w p →
-      (Ok c ≡ obeyed h line) × (after-command h c ≡ heap-after h line)
-  line-obeyed u v p e f = go (fault-of h c) refl
+  obeyed-by : (o : Option Fault) → fault-of h c ≡ o → obeyed h line ≡ placed w (answer o c)
+  obeyed-by o q = rw (sym k, sym m, q)
+
+  answered : (o : Option Fault) → fault-of h c ≡ o → placed w p ≡ placed w (answer o tt)
+  answered o q = ap (placed w) (e ∙ ap (λ (o : Option Fault). answer o tt) q)
+
+  -- where that is no fault, the line is obeyed
+  pub line-obeyed : {v : Unit {0}} → Ok v ≡ placed w p → (Ok c ≡ obeyed h line) × Leaves
+  line-obeyed f = go (fault-of h c) refl
     where
-      done : fault-of h c ≡ None → obeyed h line ≡ Ok c
-      done q = obeyed-is ∙ (rw q)
+      go : (o : Option Fault) → fault-of h c ≡ o → (Ok c ≡ obeyed h line) × Leaves
+      go None q = let done = sym (obeyed-by None q) in (done, ap (after-if h) done)
+      go (Some g) q = absurd (ok-err (sym f) (answered (Some g) q))
 
-      go : (o : Option Fault) → fault-of h c ≡ o → (Ok c ≡ obeyed h line) × (after-command h c ≡ heap-after h line)
-      go None q = (sym (done q), ap (after-if h) (sym (done q)))
-      go (Some g) q = absurd (ok-err (sym f) (ap (placed w) (e ∙ ap (λ (o : Option Fault). answer o u) q)))
-
-  pub line-refused : (u : Unit {0}) (r : Refusal) (p : Result (Unit {0}) Fault) → p ≡ answer (fault-of h c) u → Err r ≡ placed w p →
-      (Err r ≡ obeyed h line) × (after-command h c ≡ heap-after h line)
-  line-refused u r p e f = go (fault-of h c) refl
+  -- where it is one, the line is refused for it
+  pub line-refused : {r : Refusal} → Err r ≡ placed w p → (Err r ≡ obeyed h line) × Leaves
+  line-refused {r} f = go (fault-of h c) refl
     where
-      go : (o : Option Fault) → fault-of h c ≡ o → (Err r ≡ obeyed h line) × (after-command h c ≡ heap-after h line)
-      go None q = absurd (ok-err (ap (placed w) (e ∙ ap (λ (o : Option Fault). answer o u) q)) (sym f))
+      go : (o : Option Fault) → fault-of h c ≡ o → (Err r ≡ obeyed h line) × Leaves
+      go None q = absurd (ok-err (answered None q) (sym f))
       go (Some g) q =
-          let refused : obeyed h line ≡ placed w (Err g) = obeyed-is ∙ (rw q) in
-          let same = err-same (ap (placed w) (e ∙ ap (λ (o : Option Fault). answer o u) q)) (sym f) in
-          (ap {B = Result Command Refusal} Err (sym same) ∙ sym refused, fault-leaves h c g q ∙ ap (after-if h) (sym refused))
+          let refused = sym (obeyed-by (Some g) q) in
+          let same = err-same (sym f) (answered (Some g) q) in
+          (ap {B = Result Command Refusal} Err same ∙ refused, fault-leaves h c g q ∙ ap (after-if h) refused)
 
 -- a command that prints more than ok changes nothing
-pub outcome-same : (h : Meaning) (r : Result Command Refusal) → outcome-text (after-if h r) r ≡ outcome-text h r
+outcome-same : (h : Meaning) (r : Result Command Refusal) → outcome-text (after-if h r) r ≡ outcome-text h r
 outcome-same h (Ok (Put cell size)) = refl
 outcome-same h (Ok (Root number target)) = refl
 outcome-same h (Ok (Link number source target strength)) = refl
@@ -69,8 +68,7 @@ outcome-same h (Ok (Erase number)) = refl
 outcome-same h (Ok (Grade scheme)) = refl
 outcome-same h (Err r) = refl
 
--- what is printed of the heap after the line is the answer to it
-pub outcome-printed : (h g : Meaning) (line : List ℕ) (r : Result Command Refusal) → r ≡ obeyed h line → g ≡ heap-after h line →
-    outcome-text g r ≡ outcome-text h (obeyed h line)
-outcome-printed h g line r e f =
-    ap₂ outcome-text f e ∙ outcome-same h (obeyed h line)
+-- so what is printed of the heap after the line is the answer to it
+pub outcome-printed : (h g : Meaning) (line : List ℕ) (r : Result Command Refusal) → r ≡ obeyed h line
+    → g ≡ heap-after h line → outcome-text g r ≡ outcome-text h (obeyed h line)
+outcome-printed h g line r e f = ap₂ outcome-text f e ∙ outcome-same h (obeyed h line)
