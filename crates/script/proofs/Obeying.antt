@@ -56,7 +56,8 @@ module _ (h : Meaning) (line : List ℕ) (w : Reading) (c : Command)
       go (Some g) q =
           let refused = sym (obeyed-by (Some g) q) in
           let same = err-same (sym f) (answered (Some g) q) in
-          (ap {B = Result Command Refusal} Err same ∙ refused, fault-leaves h c g q ∙ ap (after-if h) refused)
+          let left = fault-leaves h c g q ∙ ap (after-if h) refused in
+          (ap {B = Result Command Refusal} Err same ∙ refused, left)
 
 -- a command that prints more than ok changes nothing
 outcome-same : (h : Meaning) (r : Result Command Refusal) → outcome-text (after-if h r) r ≡ outcome-text h r

@@ -1,3 +1,4 @@
+-- Printing a grading: its counts, and the rows behind them.
 use Rattle.text.proofs.Spelling.{and-then}
 use Rattle.script.proofs.print.print_graded.Needs as need
 

@@ -1,3 +1,4 @@
+-- Printing a refusal: the letter of its layer, its number and its byte.
 use Rattle.text.proofs.Spelling.{and-then, as-text}
 use Rattle.script.proofs.Refusals.{refusal-pieces}
 use Rattle.script.proofs.print.print_refusal.Needs as need

@@ -1,3 +1,4 @@
+-- Printing a row: its cell, its grade and its holder.
 use mathlib.Core.Path.{sym, ap}
 use Rattle.script.specs.Answers.{row-text-if}
 use Rattle.text.proofs.Spelling.{and-then, as-text}

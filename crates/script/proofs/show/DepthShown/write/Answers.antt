@@ -1,3 +1,4 @@
+-- Writing a depth: its number, a point, its tie number.
 use Rattle.text.proofs.Spelling.{and-then}
 use Rattle.script.proofs.show.DepthShown.write.Needs as need
 
