@@ -30,16 +30,18 @@ fault-leaves h (Grade scheme) f e = refl
 module _ (h : Meaning) (line : List ℕ) (w : Reading) (c : Command)
     (k : Ok w ≡ words-in line) (m : Ok c ≡ command-in w)
     (p : Result (Unit {0}) Fault) (e : p ≡ answer (fault-of h c) tt) where
+  -- the heap after the line is that after the command
   abbrev Leaves : Type 0
   Leaves = after-command h c ≡ heap-after h line
 
+  -- the command's fault says what the line comes to, and what the heap answers
   obeyed-by : (o : Option Fault) → fault-of h c ≡ o → obeyed h line ≡ placed w (answer o c)
   obeyed-by o q = rw (sym k, sym m, q)
 
   answered : (o : Option Fault) → fault-of h c ≡ o → placed w p ≡ placed w (answer o tt)
   answered o q = ap (placed w) (e ∙ ap (λ (o : Option Fault). answer o tt) q)
 
-  -- where that is no fault, the line is obeyed
+  -- where the heap finds no fault, the line is obeyed
   pub line-obeyed : {v : Unit {0}} → Ok v ≡ placed w p → (Ok c ≡ obeyed h line) × Leaves
   line-obeyed f = go (fault-of h c) refl
     where
@@ -47,7 +49,7 @@ module _ (h : Meaning) (line : List ℕ) (w : Reading) (c : Command)
       go None q = let done = sym (obeyed-by None q) in (done, ap (after-if h) done)
       go (Some g) q = absurd (ok-err (sym f) (answered (Some g) q))
 
-  -- where it is one, the line is refused for it
+  -- where it finds one, the line is refused for it
   pub line-refused : {r : Refusal} → Err r ≡ placed w p → (Err r ≡ obeyed h line) × Leaves
   line-refused {r} f = go (fault-of h c) refl
     where
