@@ -123,11 +123,12 @@ module _ {G : Type 0} (s : Scheme G) (law : Lawful s) where
             let x = law .rank-exchanges (b .grade) (a .grade) ∙ ap exchanged e in
             rw e (takes-a (by-grade a b x))
 
-  better-left : (a : Offer G) (y : Option (Offer G)) → Comes-before s (better-of s (Some a) y) a
+  -- .. and it comes before either, where there may be no other
+  pub better-left : (a : Offer G) (y : Option (Offer G)) → Comes-before s (better-of s (Some a) y) a
   better-left a None = (a, refl, first-refl a)
   better-left a (Some b) = let q = first-both-of a b in (q .0, q .1, q .2 .0)
 
-  better-right : (x : Option (Offer G)) (b : Offer G) → Comes-before s (better-of s x (Some b)) b
+  pub better-right : (x : Option (Offer G)) (b : Offer G) → Comes-before s (better-of s x (Some b)) b
   better-right None b = (b, refl, first-refl b)
   better-right (Some a) b = let q = first-both-of a b in (q .0, q .1, q .2 .1)
 

@@ -1,15 +1,11 @@
 -- What is printed of a grading is what the settling rule says.
 use Prim.Native.Nat.{ℕ}
-use mathlib.Core.Path.{_≡_, refl, sym, ap, ap₂, _∙_}
-use mathlib.Core.Bool.{Bool, true, false}
+use mathlib.Core.Path.{_≡_, refl, ap, ap₂, _∙_}
 use mathlib.Core.List.{List, _++_}
-use native.Mathlib.Omega.{arith}
-use lib.Dec.{leb}
-use lib.ListN.{length, take, drop}
+use lib.ListN.{take, drop}
 use Rattle.std.specs.declared.option.Option.{Option}
 use Rattle.std.specs.declared.option.Option.the-variants.{Some, None}
-use Rattle.std.specs.declared.result.Result.{Result}
-use Rattle.std.specs.declared.result.Result.the-variants.{Ok, Err}
+use Rattle.std.specs.declared.result.Result.the-variants.{Ok}
 use Rattle.std.proofs.shelf.Lists.{take-at}
 use Rattle.model.specs.declared.fault.Fault.{Fault}
 use Rattle.model.specs.declared.row.Counts.{Counts}
@@ -21,6 +17,7 @@ use Rattle.model.specs.Grading.{rows-fault, grade-answer, grade-after}
 use Rattle.model.proofs.Steps.{graded-done}
 use Rattle.script.specs.Answers.{graded-text}
 use Rattle.script.specs.Lines.{grades-text, grading-text, text-unless}
+use Rattle.script.proofs.Results.{ok-same, ok-err}
 
 ok-same : {A E : Type 0} {x y : A} → _≡_ {A = Result A E} (Ok x) (Ok y) → x ≡ y
 ok-same p = cc

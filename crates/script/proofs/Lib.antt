@@ -2,4 +2,5 @@ pub mod Feeding
 pub mod Gradings
 pub mod Obeying
 pub mod Refusals
+pub mod Results
 pub mod RowTexts

@@ -2,7 +2,6 @@
 use Prim.Native.Nat.{ℕ}
 use mathlib.Core.Path.{_≡_, refl, sym, ap, ap₂, _∙_}
 use mathlib.Core.List.{List}
-use native.Mathlib.Omega.{arith}
 use Rattle.std.specs.declared.option.Option.{Option}
 use Rattle.std.specs.declared.option.Option.the-variants.{Some, None}
 use Rattle.std.specs.declared.result.Result.{Result}
@@ -16,12 +15,7 @@ use Rattle.text.specs.declared.command.Command.the-variants.{Put, Root, Link, T
 use Rattle.text.specs.Words.{Reading}
 use Rattle.text.specs.Commands.{words-in, command-in}
 use Rattle.script.specs.Lines.{fault-of, after-command, after-if, placed, obeyed, heap-after, outcome-text}
-
-ok-err : {A E : Type 0} {r : Result A E} {x : A} {e : E} → r ≡ Ok x → r ≡ Err e → ⊥
-ok-err p q = let z : _≡_ {A = ℕ} 0 1 = cc in omega arith
-
-err-same : {A E : Type 0} {r : Result A E} {d e : E} → r ≡ Err d → r ≡ Err e → d ≡ e
-err-same p q = cc
+use Rattle.script.proofs.Results.{ok-err, err-same}
 
 -- a command with a fault leaves the heap alone
 fault-leaves : (h : Meaning) (c : Command) (f : Fault) → fault-of h c ≡ Some f → after-command h c ≡ h
@@ -32,18 +26,22 @@ fault-leaves h (Tie number table key value) f e = rw e
 fault-leaves h (Erase number) f e = rw e
 fault-leaves h (Grade scheme) f e = refl
 
+-- the line's words make the command c, and p is what the heap answers to it
 module _ (h : Meaning) (line : List ℕ) (w : Reading) (c : Command)
-    (k : Ok w ≡ words-in line) (m : Ok c ≡ command-in w) where
-  obeyed-is : obeyed h line ≡ placed w (answer (fault-of h c) c)
-  obeyed-is = rw (sym k, sym m)
+    (k : Ok w ≡ words-in line) (m : Ok c ≡ command-in w)
+    (p : Result (Unit {0}) Fault) (e : p ≡ answer (fault-of h c) tt) where
+  -- the heap after the line is that after the command
+  abbrev Leaves : Type 0
+  Leaves = after-command h c ≡ heap-after h line
 
   pub line-obeyed : (u v : Unit {0}) (p : Result (Unit {0}) Fault) → p ≡ answer (fault-of h c) u →
       Ok v ≡ placed w p →
       (Ok c ≡ obeyed h line) × (after-command h c ≡ heap-after h line)
   line-obeyed u v p e f = go (fault-of h c) refl
     where
-      done : fault-of h c ≡ None → obeyed h line ≡ Ok c
-      done q = obeyed-is ∙ (rw q)
+      go : (o : Option Fault) → fault-of h c ≡ o → (Ok c ≡ obeyed h line) × Leaves
+      go None q = let done = sym (obeyed-by None q) in (done, ap (after-if h) done)
+      go (Some g) q = absurd (ok-err (sym f) (answered (Some g) q))
 
       go : (o : Option Fault) → fault-of h c ≡ o →
           (Ok c ≡ obeyed h line) × (after-command h c ≡ heap-after h line)

@@ -20,7 +20,7 @@ unfolding read-on
 read-on-from n [] = omega arith
 read-on-from n (b ∷ bs) = omega (arith, read-on-from (n * 10 + (b - 48)) bs)
 
--- a byte more: its digit is added to the number, and the rest are digits or it is none itself
+-- a byte more: its digit joins what was read, and a byte that is no digit ends it
 pub read-more : (n : ℕ) (ds : List ℕ) (i : ℕ) → i < length ds
     → read-on n (drop i ds) ≡ read-on (n * 10 + (getD ds i 0 - 48)) (drop (i + 1) ds)
 unfolding read-on

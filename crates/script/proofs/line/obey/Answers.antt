@@ -1,5 +1,6 @@
-use mathlib.Core.Path.{_≡_, sym, ap, _∙_}
-use Rattle.std.specs.declared.result.Result.the-variants.{Ok, Err}
+-- Obeying a line: a fault of the heap refuses it, and else its command is done.
+use mathlib.Core.Path.{ap, _∙_}
+use Rattle.std.specs.declared.result.Result.the-variants.{Err}
 use Rattle.std.proofs.shelf.Results.{err-from-errBy}
 use Rattle.live.specs.Live.{meaning-of}
 use Rattle.text.specs.Tokens.{reading-of}

@@ -1,3 +1,4 @@
+-- The text of the rows before `cell` is written.
 use lib.ListN.{take}
 use Rattle.text.specs.Writing.{Wrote}
 use Rattle.script.specs.Answers.{rows-text}
