@@ -1,6 +1,6 @@
 // What there is to say of a saved heap's file.
 ghost use Rattle.text.specs.Writing.{Writes};
-ghost use Rattle.report.specs.Inspect.{summary-text, graded-line, shown-text};
+ghost use Rattle.report.specs.Inspect.{summary-text, graded-line, shown-text, file-refusal-text, inspect-text};
 use crate::count::filled_cells;
 use crate::count::filled_records;
 use model::fault::Fault;
@@ -46,6 +46,15 @@ fn print_grading<H: Heap>(out: &mut Vec<u8>, heap: &H, scheme: Option<SchemeName
     Ok(())
 }
 
+fn print_file_refusal(out: &mut Vec<u8>, fault: Fault) -> Result<(), AllocError>
+    ensures { λ r. ⌜ Writes r (now (out .entry)) (file-refusal-text fault) (now (out .exit)) ⌝ }
+{
+    let byte = fault.place;
+    print_refusal(out, Refusal { fault, byte })?;
+    write_byte(out, b'\n')?;
+    Ok(())
+}
+
 fn print_heap<H: Heap>(out: &mut Vec<u8>, heap: &H, scheme: Option<SchemeName>) -> Result<(), AllocError>
     ensures { λ r.
         let text = shown-text scheme (H·Heap .meaning (now (heap .entry))) in
@@ -54,4 +63,18 @@ fn print_heap<H: Heap>(out: &mut Vec<u8>, heap: &H, scheme: Option<SchemeName>) 
     print_summary(out, heap)?;
     print_grading(out, heap, scheme)?;
     Ok(())
+}
+
+// Opens the file's bytes and prints what they hold: a summary and, where a scheme is
+// asked for, the grades; or the first fault of a file that does not open.
+pub fn inspect(bytes: &[u8], scheme: Option<SchemeName>, out: &mut Vec<u8>) -> Result<(), AllocError>
+    ensures { λ r.
+        let text = inspect-text (now (bytes .entry)) scheme in
+        ⌜ Writes r (now (out .entry)) text (now (out .exit)) ⌝ }
+{
+    let mut snapshot = Snapshot::empty();
+    match snapshot.open(bytes) {
+        Ok(()) => print_heap(out, &snapshot, scheme),
+        Err(fault) => print_file_refusal(out, fault),
+    }
 }

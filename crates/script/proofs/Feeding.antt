@@ -1,6 +1,6 @@
 -- Fed byte by byte, a script prints the answers to its lines.
-use Prim.Native.Nat.{ℕ}
-use mathlib.Core.Path.{_≡_, refl, sym, ap, ap₂, _∙_}
+use Prim.Native.Nat.{ℕ, suc, _+_, _≤_, _<_}
+use mathlib.Core.Path.{_≡_, refl, sym, ap, ap₂, subst, _∙_}
 use mathlib.Core.Bool.{Bool, true, false, cond}
 use mathlib.Core.List.{List, [], _∷_, _++_, append-nil, append-assoc}
 use mathlib.Core.Logic.{inl, inr}
@@ -10,10 +10,9 @@ use lib.Dec.{eqb, ltb}
 use lib.ListN.{length, take, set, length-take, length-append}
 use lib.Seq.{take-append-le, take-suc-set}
 use borrow.Author.Tests.{lt-ltb, le-ltb, eq-eqb, ne-eqb}
-use Rattle.std.specs.declared.result.Result.{Result}
 use Rattle.std.proofs.shelf.Lists.{take-all}
 use Rattle.std.proofs.shelf.Tests.{cases-lt}
-use Rattle.model.specs.Faults.{answer}
+use Rattle.std.specs.declared.result.Result.{Result}
 use Rattle.model.specs.Meaning.{Meaning}
 use Rattle.text.specs.declared.command.Command.{Command}
 use Rattle.text.specs.declared.refusal.Refusal.{Refusal}
@@ -23,7 +22,7 @@ use Rattle.script.specs.Lines.{obeyed, heap-after, answer-line, after-if, outc
 use Rattle.script.specs.Scripts.{State, lines-of, onto-first, answers, output, kept, with-byte, after-byte, byte-prints, end-prints, line-ended, line-answer, Answers-each-line}
 use Rattle.model.specs.Faults.{answer}
 
--- the first 81 bytes say as much as the whole line: what is obeyed, answered and left is the same
+-- the first 81 bytes say as much as the whole line
 words-cap : (q : List ℕ) → words-in (take 81 q) ≡ words-in q
 words-cap q = elim (cases-lt 81 (length q)) [
   | inl l ↦ (
@@ -47,7 +46,7 @@ answer-cap h q = ap (λ (r : Result Command Refusal). outcome-text h r ++ (10 �
 after-cap : (h : Meaning) (q : List ℕ) → heap-after h (take 81 q) ≡ heap-after h q
 after-cap h q = ap (after-if h) (obeyed-cap h q)
 
--- the state in the midst of a line that began with q, and a byte later
+-- the state in the midst of a line that began with q
 abbrev midst : Meaning → List ℕ → State
 midst h q = record { heap = h; line = take 81 q }
 
@@ -90,11 +89,7 @@ begun-more q b [] =
     rw t
 begun-more q b (l ∷ ls) = ap (λ (x : List ℕ). x ∷ ls) (append-assoc q (b ∷ []) l)
 
--- after a line that began with q, the rest of the input prints the answers to its lines
-abbrev Fed : Meaning → List ℕ → List ℕ → Type 0
-Fed h q bs = output (midst h q) bs ≡ answers h (begun q (lines-of bs))
-
--- .. at the end of the input
+-- the end of the input in the midst of a line
 ends : (h : Meaning) (q : List ℕ) → end-prints (midst h q) ≡ answers h (begun q [])
 unfolding answers
 ends h q = elim (cases-lt 0 (length q)) [
@@ -117,20 +112,11 @@ feeds-end : (h : Meaning) (q bs : List ℕ) →
     line-answer (midst h q) ++ output (line-ended (midst h q)) bs ≡ answers h (begun q ([] ∷ lines-of bs))
 unfolding answers
 feeds-end h q bs ih =
-    let whole = sym (append-nil q) in
     ap₂ (λ (x : List ℕ) (y : List ℕ). x ++ y)
-    (answer-cap h q ∙ ap (answer-line h) whole)
-    (ih ∙ ap₂ answers (after-cap h q ∙ ap (heap-after h) whole) (begun-none (lines-of bs)))
+    (answer-cap h q ∙ ap (answer-line h) (sym (append-nil q)))
+    (ih ∙ ap₂ answers (after-cap h q ∙ ap (heap-after h) (sym (append-nil q))) (begun-none (lines-of bs)))
 
--- .. and at any other
-feeds-on : (h : Meaning) (q : List ℕ) (b : ℕ) (bs : List ℕ) → Fed h (q ++ (b ∷ [])) bs
-    → output (with-byte (midst h q) b) bs ≡ answers h (begun q (onto-first b (lines-of bs)))
-feeds-on h q b bs ih =
-    ap (λ (st : State). output st bs) (kept-cap h q b)
-    ∙ ih
-    ∙ ap (answers h) (begun-more q b (lines-of bs))
-
-feeds : (h : Meaning) (q bs : List ℕ) → Fed h q bs
+feeds : (h : Meaning) (q bs : List ℕ) → output (midst h q) bs ≡ answers h (begun q (lines-of bs))
 unfolding output lines-of
 feeds h q [] = ends h q
 feeds h q (b ∷ bs) =
@@ -148,9 +134,7 @@ feeds h q (b ∷ bs) =
         ap (λ (st : State). output st bs) (kept-cap h q b) ∙ (j ∙ ap (answers h) (begun-more q b
         (lines-of bs)))
 
--- so a script that begins a line prints the answers to all the lines of its input
 pub answers-each-line : (st : State) → st .line ≡ [] → Answers-each-line st
 answers-each-line st e input =
     ap (λ (l : List ℕ). output (record { heap = st .heap; line = l }) input) e
-    ∙ feeds (st .heap) [] input
-    ∙ ap (answers (st .heap)) (begun-none (lines-of input))
+    ∙ (feeds (st .heap) [] input ∙ ap (answers (st .heap)) (begun-none (lines-of input)))

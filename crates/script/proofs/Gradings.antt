@@ -19,28 +19,22 @@ use Rattle.script.specs.Answers.{graded-text}
 use Rattle.script.specs.Lines.{grades-text, grading-text, text-unless}
 use Rattle.script.proofs.Results.{ok-same, ok-err}
 
-ok-same : {A E : Type 0} {x y : A} → _≡_ {A = Result A E} (Ok x) (Ok y) → x ≡ y
-ok-same p = cc
-
-ok-err : {A E : Type 0} {x : A} {e : E} → _≡_ {A = Result A E} (Ok x) (Err e) → ⊥
-ok-err p = let z : _≡_ {A = ℕ} 0 1 = cc in omega arith
-
-module _ {G : Type 0} (show : G → List ℕ) (s : Scheme G) (law : Lawful s) (h : Meaning)
-    (wf : Well-formed h) where
-  pub grading-printed : (rows after front : Rows G) (k : Counts) → Ok k ≡ grade-answer s h rows →
-      after ≡ grade-after s h rows → front ≡ take 1024 after →
-      graded-text show k front ≡ grading-text show s h rows
+-- k and `front` are the counts and the 1,024 rows that a grading answers and leaves
+module _ {G : Type 0} (show : G → List ℕ) (s : Scheme G) (law : Lawful s)
+    (h : Meaning) (wf : Well-formed h) where
+  pub grading-printed : (rows after front : Rows G) (k : Counts) → Ok k ≡ grade-answer s h rows
+      → after ≡ grade-after s h rows → front ≡ take 1024 after
+      → graded-text show k front ≡ grading-text show s h rows
   grading-printed rows after front k a b c = go (rows-fault rows) a b
     where
       counts : Counts
       counts = record { settled = graded s h .turn; weighed = weighed s h }
 
-      go : (o : Option Fault) → Ok k ≡ answer o counts → after ≡ left o
-          (graded s h .rows ++ drop 1024 rows) rows →
-          graded-text show k front ≡ text-unless o (grades-text show s h)
+      go : (o : Option Fault) → Ok k ≡ answer o counts
+          → after ≡ left o (graded s h .rows ++ drop 1024 rows) rows
+          → graded-text show k front ≡ text-unless o (grades-text show s h)
       go None p q =
-          let f : front ≡ graded s h .rows =
-          c ∙ (ap (take 1024) q ∙ take-at (graded s h .rows) (drop 1024 rows) 1024
-          (graded-done s law h wf .0 .wide)) in
-          ap₂ (graded-text show) (ok-same p) f
-      go (Some e) p q = absurd (ok-err p)
+          let wide = graded-done s law h wf .0 .wide in
+          let whole = take-at (graded s h .rows) (drop 1024 rows) 1024 wide in
+          ap₂ (graded-text show) (ok-same refl p) (c ∙ ap (take 1024) q ∙ whole)
+      go (Some e) p q = absurd (ok-err refl p)

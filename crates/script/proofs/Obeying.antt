@@ -34,40 +34,35 @@ module _ (h : Meaning) (line : List ℕ) (w : Reading) (c : Command)
   abbrev Leaves : Type 0
   Leaves = after-command h c ≡ heap-after h line
 
-  pub line-obeyed : (u v : Unit {0}) (p : Result (Unit {0}) Fault) → p ≡ answer (fault-of h c) u →
-      Ok v ≡ placed w p →
-      (Ok c ≡ obeyed h line) × (after-command h c ≡ heap-after h line)
-  line-obeyed u v p e f = go (fault-of h c) refl
+  -- the command's fault says what the line comes to, and what the heap answers
+  obeyed-by : (o : Option Fault) → fault-of h c ≡ o → obeyed h line ≡ placed w (answer o c)
+  obeyed-by o q = rw (sym k, sym m, q)
+
+  answered : (o : Option Fault) → fault-of h c ≡ o → placed w p ≡ placed w (answer o tt)
+  answered o q = ap (placed w) (e ∙ ap (λ (o : Option Fault). answer o tt) q)
+
+  -- where the heap finds no fault, the line is obeyed
+  pub line-obeyed : {v : Unit {0}} → Ok v ≡ placed w p → (Ok c ≡ obeyed h line) × Leaves
+  line-obeyed f = go (fault-of h c) refl
     where
       go : (o : Option Fault) → fault-of h c ≡ o → (Ok c ≡ obeyed h line) × Leaves
       go None q = let done = sym (obeyed-by None q) in (done, ap (after-if h) done)
       go (Some g) q = absurd (ok-err (sym f) (answered (Some g) q))
 
-      go : (o : Option Fault) → fault-of h c ≡ o →
-          (Ok c ≡ obeyed h line) × (after-command h c ≡ heap-after h line)
-      go None q = (sym (done q), ap (after-if h) (sym (done q)))
-      go (Some g) q =
-          absurd (ok-err (sym f) (ap (placed w) (e ∙ ap (λ (o : Option Fault). answer o u) q)))
-
-  pub line-refused : (u : Unit {0}) (r : Refusal) (p : Result (Unit {0}) Fault) →
-      p ≡ answer (fault-of h c) u → Err r ≡ placed w p →
-      (Err r ≡ obeyed h line) × (after-command h c ≡ heap-after h line)
-  line-refused u r p e f = go (fault-of h c) refl
+  -- where it finds one, the line is refused for it
+  pub line-refused : {r : Refusal} → Err r ≡ placed w p → (Err r ≡ obeyed h line) × Leaves
+  line-refused {r} f = go (fault-of h c) refl
     where
-      go : (o : Option Fault) → fault-of h c ≡ o →
-          (Err r ≡ obeyed h line) × (after-command h c ≡ heap-after h line)
-      go None q = absurd (ok-err (ap (placed w) (e ∙ ap (λ (o : Option Fault). answer o u) q)) (sym f))
+      go : (o : Option Fault) → fault-of h c ≡ o → (Err r ≡ obeyed h line) × Leaves
+      go None q = absurd (ok-err (answered None q) (sym f))
       go (Some g) q =
-          let refused : obeyed h line ≡ placed w (Err g) = obeyed-is ∙ (rw q) in
-          let same = err-same (ap (placed w) (e ∙ ap (λ (o : Option Fault). answer o u) q)) (sym f) in (
-            ap {B = Result Command Refusal} Err (sym same) ∙ sym refused,
-            fault-leaves h c g q ∙ ap
-                (after-if h) (sym refused),
-          )
+          let refused = sym (obeyed-by (Some g) q) in
+          let same = err-same (sym f) (answered (Some g) q) in
+          let left = fault-leaves h c g q ∙ ap (after-if h) refused in
+          (ap {B = Result Command Refusal} Err same ∙ refused, left)
 
 -- a command that prints more than ok changes nothing
-pub outcome-same : (h : Meaning) (r : Result Command Refusal) → outcome-text
-    (after-if h r) r ≡ outcome-text h r
+outcome-same : (h : Meaning) (r : Result Command Refusal) → outcome-text (after-if h r) r ≡ outcome-text h r
 outcome-same h (Ok (Put cell size)) = refl
 outcome-same h (Ok (Root number target)) = refl
 outcome-same h (Ok (Link number source target strength)) = refl
@@ -76,9 +71,7 @@ outcome-same h (Ok (Erase number)) = refl
 outcome-same h (Ok (Grade scheme)) = refl
 outcome-same h (Err r) = refl
 
--- what is printed of the heap after the line is the answer to it
-pub outcome-printed : (h g : Meaning) (line : List ℕ) (r : Result Command Refusal) → r ≡ obeyed h line →
-    g ≡ heap-after h line →
-    outcome-text g r ≡ outcome-text h (obeyed h line)
-outcome-printed h g line r e f =
-    ap₂ outcome-text f e ∙ outcome-same h (obeyed h line)
+-- so what is printed of the heap after the line is the answer to it
+pub outcome-printed : (h g : Meaning) (line : List ℕ) (r : Result Command Refusal) → r ≡ obeyed h line
+    → g ≡ heap-after h line → outcome-text g r ≡ outcome-text h (obeyed h line)
+outcome-printed h g line r e f = ap₂ outcome-text f e ∙ outcome-same h (obeyed h line)

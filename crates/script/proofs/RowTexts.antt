@@ -1,6 +1,6 @@
--- The text of the rows is that of each row, one behind another.
+-- The text of the rows, row by row.
 use Prim.Native.Nat.{ℕ, zero, suc, _+_, _<_, _≤_}
-use mathlib.Core.Path.{_≡_, sym, ap, _∙_}
+use mathlib.Core.Path.{_≡_, refl, sym, ap, subst, _∙_}
 use mathlib.Core.List.{List, [], _∷_, _++_, append-nil, append-assoc}
 use native.Mathlib.Omega.{arith}
 use native.Mathlib.Numerals.{add-one}
@@ -9,7 +9,7 @@ use Rattle.std.specs.Of.Vec.{vec-items}
 use Rattle.std.specs.declared.alloc.Global.{Global}
 use Rattle.std.specs.declared.vec.Vec.{Vec}
 use Rattle.std.specs.declared.option.Option.{Option}
-use Rattle.std.specs.declared.option.Option.the-variants.{None}
+use Rattle.std.specs.declared.option.Option.the-variants.{Some, None}
 use Rattle.std.proofs.shelf.Lists.{getD-default, take-all}
 use Rattle.model.specs.declared.row.Row.{Row}
 use Rattle.model.specs.Settling.{Rows}
@@ -44,7 +44,6 @@ module _ {G : Type 0} (show : G → List ℕ) where
       ∙ ap (λ (n : ℕ). row-text-if show c x ++ rows-text show (c + 1) (take i xs) ++ rows-text show n
       (drop i xs)) (omega arith))
 
-  -- row i behind the rows before it
   module _ (xs : Rows G) (i : ℕ) (l : i < length xs) where
     more : rows-text show 0 (take (i + 1) xs) ≡ rows-text show 0 (take i xs) ++ row-text-if show i
         (getD xs i None)

@@ -9,20 +9,18 @@ use Rattle.script.proofs.line.obey.Needs as need
 
 pub returns-in-Break-at-word : need.returns-in-Break-at-word
 returns-in-Break-at-word c =
-    let p = err-from-errBy (c .from-residual-in-Break-at-word .result)
-    (c .from-residual-in-Break-at-word .ensures .1) in
-    let q = line-refused (meaning-of (c .args .heap .now)) (c .args .line .now) (reading-of
-    (c .in-Continue-words .words)) (c .in-Continue-command .command)
-    (c .in-Continue-words .ensures tt) (c .in-Continue-command .ensures tt) tt
-    (c .in-Break-at-word .field-0 .0) (c .perform .result)
-    (c .perform .ensures .answers) (c .in-Break-at-word .ensures tt) in
-    record { answers = p .1 ∙ (ap Err (p .2) ∙ q .0); leaves = c .perform .ensures .leaves ∙ q .1 }
+    let b = c .from-residual-in-Break-at-word in
+    let p = err-from-errBy (b .result) (b .ensures .1) in
+    let q = line-refused (meaning-of (c .args .heap .now)) (c .args .line .now)
+    (reading-of (c .in-Continue-words .words)) (c .in-Continue-command .command)
+    (c .in-Continue-words .ensures tt) (c .in-Continue-command .ensures tt)
+    (c .perform .result) (c .perform .ensures .answers) (c .in-Break-at-word .ensures tt) in
+    record { answers = p .1 ∙ ap Err (p .2) ∙ q .0; leaves = c .perform .ensures .leaves ∙ q .1 }
 
 pub returns : need.returns
 returns c =
-    let q = line-obeyed (meaning-of (c .args .heap .now)) (c .args .line .now) (reading-of
-    (c .in-Continue-words .words)) (c .in-Continue-command .command)
-    (c .in-Continue-words .ensures tt) (c .in-Continue-command .ensures tt) tt
-    (c .in-Continue-at-word .field-0) (c .perform .result)
-    (c .perform .ensures .answers) (c .in-Continue-at-word .ensures tt) in
+    let q = line-obeyed (meaning-of (c .args .heap .now)) (c .args .line .now)
+    (reading-of (c .in-Continue-words .words)) (c .in-Continue-command .command)
+    (c .in-Continue-words .ensures tt) (c .in-Continue-command .ensures tt)
+    (c .perform .result) (c .perform .ensures .answers) (c .in-Continue-at-word .ensures tt) in
     record { answers = q .0; leaves = c .perform .ensures .leaves ∙ q .1 }

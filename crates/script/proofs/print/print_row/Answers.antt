@@ -1,4 +1,3 @@
--- Printing a row: its cell, its grade and its holder.
 use mathlib.Core.Path.{sym, ap}
 use mathlib.Core.List.{[], _∷_}
 use Rattle.std.specs.Written.{decimal}

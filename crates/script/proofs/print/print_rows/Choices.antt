@@ -1,4 +1,3 @@
--- The text of the rows before `cell` is written.
 use lib.ListN.{take}
 use Rattle.text.specs.Writing.{Wrote}
 use Rattle.script.specs.Answers.{rows-text}

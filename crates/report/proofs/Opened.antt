@@ -1,0 +1,22 @@
+-- What is shown of a file that opened.
+use Prim.Native.Nat.{ℕ}
+use mathlib.Core.Path.{_≡_, ap}
+use native.Mathlib.Omega.{arith}
+use Rattle.std.specs.declared.option.Option.{Option}
+use Rattle.std.specs.declared.option.Option.the-variants.{Some, None}
+use Rattle.std.specs.declared.result.Result.{Result}
+use Rattle.std.specs.declared.result.Result.the-variants.{Ok, Err}
+use Rattle.model.specs.declared.fault.Fault.{Fault}
+use Rattle.model.specs.Faults.{answer, left}
+use Rattle.model.specs.Meaning.{Meaning}
+use Rattle.text.specs.declared.command.SchemeName.{SchemeName}
+use Rattle.report.specs.Inspect.{shown-text, inspected}
+
+ok-err : {A E : Type 0} {x : A} {e : E} → _≡_ {A = Result A E} (Ok x) (Err e) → ⊥
+ok-err p = let z : _≡_ {A = ℕ} 0 1 = cc in omega arith
+
+-- the heap after an accepted opening is the one that the file lays down
+pub opened-shown : (o : Option Fault) (scheme : Option SchemeName) (u : Unit {0}) (now laid before : Meaning) →
+    Ok u ≡ answer o tt → now ≡ left o laid before → shown-text scheme now ≡ inspected o scheme laid
+opened-shown None scheme u now laid before p q = ap (shown-text scheme) q
+opened-shown (Some f) scheme u now laid before p q = absurd (ok-err p)
