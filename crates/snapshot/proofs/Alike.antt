@@ -52,13 +52,13 @@ agree : {A : Type 0} (f : ℕ → ℕ) (v : ℕ → A) (m : ℕ) (g : ℕ → �
 agree f v m g w n rf rg into back zero k l a b = absurd (omega arith)
 agree f v m g w n rf rg into back (suc c) k l a b =
     let below : (j : ℕ) → j < k → f j ≡ g j =
-      λ j p. agree f v m g w n rf rg into back c j (omega arith) (omega arith) (omega arith) in
+    λ j p. agree f v m g w n rf rg into back c j (omega arith) (omega arith) (omega arith) in
     elim (cases-order (f k) (g k)) [
       | inl e ↦ e
       | inr q ↦ elim q [
-          | inl lt ↦ absurd (lower f v m g w n rf rg into k a b below lt)
-          | inr gt ↦ absurd (lower g w n f v m rg rf back k b a (λ j p. sym (below j p)) gt)
-        ]
+        | inl lt ↦ absurd (lower f v m g w n rf rg into k a b below lt)
+        | inr gt ↦ absurd (lower g w n f v m rg rf back k b a (λ j p. sym (below j p)) gt)
+      ]
     ]
 
 -- neither has more entries
@@ -86,17 +86,20 @@ alike {A} f v m g w n rf rg into back = record { count = count; numbers = number
         let p = fewer f v m g w n rf rg into back in
         let q = fewer g w n f v m rg rf back into in
         omega arith
+
     numbers : (k : ℕ) → k < m → f k ≡ g k
     numbers k l = agree f v m g w n rf rg into back (suc k) k (omega arith) l (let e = count in omega arith)
+
     -- an entry of the number of entry k is entry k
     only : (k j : ℕ) → k < n → j < n → g j ≡ g k → j ≡ k
     only k j l l′ e = elim (cases-order j k) [
       | inl q ↦ q
       | inr q ↦ elim q [
-          | inl lt ↦ absurd (omega (arith, rising-past g n rg j k lt l))
-          | inr gt ↦ absurd (omega (arith, rising-past g n rg k j gt l′))
-        ]
+        | inl lt ↦ absurd (omega (arith, rising-past g n rg j k lt l))
+        | inr gt ↦ absurd (omega (arith, rising-past g n rg k j gt l′))
+      ]
     ]
+
     values : (k : ℕ) → k < m → v k ≡ w k
     values k l =
         let e = into k l in

@@ -44,9 +44,9 @@ whole l e =
     let c = eqb (l .links .size % 8) 0 in
     let d = eqb (l .ephemerons .size % 8) 0 in
     let p = first-none (unless a (fault SectionLength 4)) (first (unless b (fault SectionLength 12))
-      (first (unless c (fault SectionLength 20)) (unless d (fault SectionLength 28)))) e in
+    (first (unless c (fault SectionLength 20)) (unless d (fault SectionLength 28)))) e in
     let q = first-none (unless b (fault SectionLength 12))
-      (first (unless c (fault SectionLength 20)) (unless d (fault SectionLength 28))) (p .1) in
+    (first (unless c (fault SectionLength 20)) (unless d (fault SectionLength 28))) (p .1) in
     let r = first-none (unless c (fault SectionLength 20)) (unless d (fault SectionLength 28)) (q .1) in
     record {
       cells = eqb-true _ _ (unless-none a (fault SectionLength 4) (p .0));
@@ -60,19 +60,19 @@ record Sound (bs : List ℕ) : Type 0 where
   head : Headed bs
   multiples : Whole (layout-of bs)
   entries : Clean (layout-of bs) (section bs (layout-of bs .cells)) (section bs (layout-of bs .roots))
-    (section bs (layout-of bs .links)) (section bs (layout-of bs .ephemerons))
+      (section bs (layout-of bs .links)) (section bs (layout-of bs .ephemerons))
 
 sound : (bs : List ℕ) → file-fault bs ≡ None → Sound bs
 sound bs e =
     let l = layout-of bs in
     let p = first-none (header-fault bs) (entries-fault l (section bs (l .cells)) (section bs (l .roots))
-      (section bs (l .links)) (section bs (l .ephemerons))) e in
+    (section bs (l .links)) (section bs (l .ephemerons))) e in
     let h = headed bs (p .0) in
     record {
       head = h;
       multiples = whole l (h .whole);
       entries = clean l (section bs (l .cells)) (section bs (l .roots)) (section bs (l .links))
-        (section bs (l .ephemerons)) (p .1);
+          (section bs (l .ephemerons)) (p .1);
     }
 
 -- how long each section is
@@ -111,35 +111,35 @@ shared a b t u f g e =
     let v = f .multiples in
     let w = g .multiples in
     let same-cells = table-same 1024 (cell-in (section a (l .cells))) (cell-in (section b (m .cells)))
-      (ap (λ (h : Meaning). h .cells) e) in
+    (ap (λ (h : Meaning). h .cells) e) in
     let same-records = table-same 4096
-      (record-in (section a (l .roots)) (section a (l .links)) (section a (l .ephemerons)))
-      (record-in (section b (m .roots)) (section b (m .links)) (section b (m .ephemerons)))
-      (ap (λ (h : Meaning). h .records) e) in
+    (record-in (section a (l .roots)) (section a (l .links)) (section a (l .ephemerons)))
+    (record-in (section b (m .roots)) (section b (m .links)) (section b (m .ephemerons)))
+    (ap (λ (h : Meaning). h .records) e) in
     record {
       cells = cells-same (section a (l .cells)) (section b (m .cells)) (l .cells .offset) (m .cells .offset)
-        (bytes-section a (l .cells) t) (bytes-section b (m .cells) u)
-        (rw (p .cells) (v .cells)) (rw (q .cells) (w .cells))
-        (f .entries .cells) (g .entries .cells) same-cells;
+          (bytes-section a (l .cells) t) (bytes-section b (m .cells) u)
+          (rw (p .cells) (v .cells)) (rw (q .cells) (w .cells))
+          (f .entries .cells) (g .entries .cells) same-cells;
       roots = roots-same (section a (l .cells)) (section a (l .roots)) (section a (l .links)) (section a (l .ephemerons))
-        (section b (m .cells)) (section b (m .roots)) (section b (m .links)) (section b (m .ephemerons))
-        (l .roots .offset) (m .roots .offset)
-        (bytes-section a (l .roots) t) (bytes-section b (m .roots) u)
-        (rw (p .roots) (v .roots)) (rw (q .roots) (w .roots))
-        (f .entries .roots) (g .entries .roots) same-records;
+          (section b (m .cells)) (section b (m .roots)) (section b (m .links)) (section b (m .ephemerons))
+          (l .roots .offset) (m .roots .offset)
+          (bytes-section a (l .roots) t) (bytes-section b (m .roots) u)
+          (rw (p .roots) (v .roots)) (rw (q .roots) (w .roots))
+          (f .entries .roots) (g .entries .roots) same-records;
       links = links-same (section a (l .cells)) (section a (l .roots)) (section a (l .links)) (section a (l .ephemerons))
-        (section b (m .cells)) (section b (m .roots)) (section b (m .links)) (section b (m .ephemerons))
-        (l .links .offset) (m .links .offset)
-        (bytes-section a (l .links) t) (bytes-section b (m .links) u)
-        (rw (p .links) (v .links)) (rw (q .links) (w .links))
-        (f .entries .links) (g .entries .links) same-records;
+          (section b (m .cells)) (section b (m .roots)) (section b (m .links)) (section b (m .ephemerons))
+          (l .links .offset) (m .links .offset)
+          (bytes-section a (l .links) t) (bytes-section b (m .links) u)
+          (rw (p .links) (v .links)) (rw (q .links) (w .links))
+          (f .entries .links) (g .entries .links) same-records;
       ephemerons = ephemerons-same (section a (l .cells)) (section a (l .roots)) (section a (l .links))
-        (section a (l .ephemerons))
-        (section b (m .cells)) (section b (m .roots)) (section b (m .links)) (section b (m .ephemerons))
-        (l .ephemerons .offset) (m .ephemerons .offset)
-        (bytes-section a (l .ephemerons) t) (bytes-section b (m .ephemerons) u)
-        (rw (p .ephemerons) (v .ephemerons)) (rw (q .ephemerons) (w .ephemerons))
-        (f .entries .ephemerons) (g .entries .ephemerons) same-records;
+          (section a (l .ephemerons))
+          (section b (m .cells)) (section b (m .roots)) (section b (m .links)) (section b (m .ephemerons))
+          (l .ephemerons .offset) (m .ephemerons .offset)
+          (bytes-section a (l .ephemerons) t) (bytes-section b (m .ephemerons) u)
+          (rw (p .ephemerons) (v .ephemerons)) (rw (q .ephemerons) (w .ephemerons))
+          (f .entries .ephemerons) (g .entries .ephemerons) same-records;
     }
 
 -- bytes of a section that lies at one place in both
@@ -164,6 +164,7 @@ lead-same a b e f i l = go i l
     parts c h =
         let p = four (eqb (getD c 0 0) 69) (eqb (getD c 1 0) 72) (eqb (getD c 2 0) 1) (eqb (getD c 3 0) 4) h in
         (eqb-true _ _ (p .0), eqb-true _ _ (p .1), eqb-true _ _ (p .2), eqb-true _ _ (p .3))
+
     go : (i : ℕ) → i < 4 → getD a i 0 ≡ getD b i 0
     go zero m = parts a e .0 ∙ sym (parts b f .0)
     go (suc zero) m = parts a e .1 ∙ sym (parts b f .1)
@@ -219,12 +220,16 @@ level a b f g s =
     let r : layout-of a .roots .size ≡ layout-of b .roots .size = sym (p .roots) ∙ (ap length (s .roots) ∙ q .roots) in
     let k : layout-of a .links .size ≡ layout-of b .links .size = sym (p .links) ∙ (ap length (s .links) ∙ q .links) in
     let d : layout-of a .ephemerons .size ≡ layout-of b .ephemerons .size =
-      sym (p .ephemerons) ∙ (ap length (s .ephemerons) ∙ q .ephemerons) in
+    sym (p .ephemerons) ∙ (ap length (s .ephemerons) ∙ q .ephemerons) in
     record {
-      cells-at = omega arith; cells-size = c;
-      roots-at = omega arith; roots-size = r;
-      links-at = omega arith; links-size = k;
-      ephemerons-at = omega arith; ephemerons-size = d;
+      cells-at = omega arith;
+      cells-size = c;
+      roots-at = omega arith;
+      roots-size = r;
+      links-at = omega arith;
+      links-size = k;
+      ephemerons-at = omega arith;
+      ephemerons-size = d;
     }
 
 pairs-same : (a b : List ℕ) → Bytes a → Bytes b → Level (layout-of a) (layout-of b) →
@@ -236,9 +241,9 @@ pairs-same a b t u v i l m = go (i - 4) (omega arith) (omega arith)
         ap (λ (k : ℕ). getD a k 0) x
         ∙ (sym (getD-drop 4 a j 0)
         ∙ (same-quads (drop 4 a) (drop 4 b) (bytes-drop 4 a t) (bytes-drop 4 b u)
-          (eight (λ k. u32-at (drop 4 a) (4 * k) ≡ u32-at (drop 4 b) (4 * k))
-          (v .cells-at) (v .cells-size) (v .roots-at) (v .roots-size)
-          (v .links-at) (v .links-size) (v .ephemerons-at) (v .ephemerons-size)) j n
+        (eight (λ k. u32-at (drop 4 a) (4 * k) ≡ u32-at (drop 4 b) (4 * k))
+        (v .cells-at) (v .cells-size) (v .roots-at) (v .roots-size)
+        (v .links-at) (v .links-size) (v .ephemerons-at) (v .ephemerons-size)) j n
         ∙ (getD-drop 4 b j 0
         ∙ ap (λ (k : ℕ). getD b k 0) (sym x))))
 
@@ -253,23 +258,24 @@ one-file a b t u x y e = whole-file (sound a x) (sound b y)
         elim (cases-lt i 4) [
           | inl m ↦ lead-same a b (f .head .led) (g .head .led) i m
           | inr m₁ ↦ elim (cases-lt i 36) [
-              | inl m ↦ pairs-same a b t u v i m₁ m
-              | inr m₂ ↦ elim (cases-lt i (layout-of a .roots .offset)) [
-                  | inl m ↦ region a b (layout-of a .cells) (layout-of b .cells)
-                      (v .cells-at) (v .cells-size) (s .cells) i (omega arith) (omega arith)
-                  | inr m₃ ↦ elim (cases-lt i (layout-of a .links .offset)) [
-                      | inl m ↦ region a b (layout-of a .roots) (layout-of b .roots)
-                          (v .roots-at) (v .roots-size) (s .roots) i m₃ (omega arith)
-                      | inr m₄ ↦ elim (cases-lt i (layout-of a .ephemerons .offset)) [
-                          | inl m ↦ region a b (layout-of a .links) (layout-of b .links)
-                              (v .links-at) (v .links-size) (s .links) i m₄ (omega arith)
-                          | inr m₅ ↦ region a b (layout-of a .ephemerons) (layout-of b .ephemerons)
-                              (v .ephemerons-at) (v .ephemerons-size) (s .ephemerons) i m₅ (omega arith)
-                        ]
-                    ]
+            | inl m ↦ pairs-same a b t u v i m₁ m
+            | inr m₂ ↦ elim (cases-lt i (layout-of a .roots .offset)) [
+              | inl m ↦ region a b (layout-of a .cells) (layout-of b .cells)
+                  (v .cells-at) (v .cells-size) (s .cells) i (omega arith) (omega arith)
+              | inr m₃ ↦ elim (cases-lt i (layout-of a .links .offset)) [
+                | inl m ↦ region a b (layout-of a .roots) (layout-of b .roots)
+                    (v .roots-at) (v .roots-size) (s .roots) i m₃ (omega arith)
+                | inr m₄ ↦ elim (cases-lt i (layout-of a .ephemerons .offset)) [
+                  | inl m ↦ region a b (layout-of a .links) (layout-of b .links)
+                      (v .links-at) (v .links-size) (s .links) i m₄ (omega arith)
+                  | inr m₅ ↦ region a b (layout-of a .ephemerons) (layout-of b .ephemerons)
+                      (v .ephemerons-at) (v .ephemerons-size) (s .ephemerons) i m₅ (omega arith)
                 ]
+              ]
             ]
+          ]
         ]
+
     whole-file : Sound a → Sound b → a ≡ b
     whole-file f g =
         let s = shared a b t u f g e in

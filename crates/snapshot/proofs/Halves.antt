@@ -46,12 +46,12 @@ eighth : (a b : List ℕ) (k h : ℕ) → field 8 a k 0 ≡ field 8 b k 0 → fi
 eighth a b k h p q r s e = elim (cases-eq (2 * h) (8 * k + 0)) [
   | inl x ↦ rw x p
   | inr x ↦ elim (cases-eq (2 * h) (8 * k + 2)) [
-      | inl y ↦ rw y q
-      | inr y ↦ elim (cases-eq (2 * h) (8 * k + 4)) [
-          | inl z ↦ rw z r
-          | inr z ↦ (let w : 2 * h ≡ 8 * k + 6 = omega arith in rw w s)
-        ]
+    | inl y ↦ rw y q
+    | inr y ↦ elim (cases-eq (2 * h) (8 * k + 4)) [
+      | inl z ↦ rw z r
+      | inr z ↦ (let w : 2 * h ≡ 8 * k + 6 = omega arith in rw w s)
     ]
+  ]
 ]
 
 fourth : (a b : List ℕ) (k h : ℕ) → field 4 a k 0 ≡ field 4 b k 0 → field 4 a k 2 ≡ field 4 b k 2 →
@@ -63,7 +63,7 @@ fourth a b k h p q e = elim (cases-eq (2 * h) (4 * k + 0)) [
 
 pub same-eights : (a b : List ℕ) → Bytes a → Bytes b → length a ≡ length b → length a % 8 ≡ 0 →
     ((k : ℕ) → k < entries 8 a → (field 8 a k 0 ≡ field 8 b k 0) × (field 8 a k 2 ≡ field 8 b k 2) ×
-      (field 8 a k 4 ≡ field 8 b k 4) × (field 8 a k 6 ≡ field 8 b k 6)) → a ≡ b
+    (field 8 a k 4 ≡ field 8 b k 4) × (field 8 a k 6 ≡ field 8 b k 6)) → a ≡ b
 same-eights a b s t e w each = ext-getD 0 a b e (same-below a b s t (length a) (λ h l.
     let p = each (h / 4) (omega arith) in
     eighth a b (h / 4) h (p .0) (p .1) (p .2) (p .3) (omega arith)))

@@ -74,17 +74,18 @@ pub cells-same : (cs ds : List ℕ) (i j : ℕ) → Bytes cs → Bytes ds → le
     cells-fault cs i ≡ None → cells-fault ds j ≡ None → Same-cells cs ds → cs ≡ ds
 cells-same cs ds i j t u w x g h same =
     let al = alike (number 8 cs) (size-at cs) (entries 8 cs) (number 8 ds) (size-at ds) (entries 8 ds)
-      (cells-sorted cs i g) (cells-sorted ds j h)
-      (cells-into cs ds i g same) (cells-into ds cs j h (λ n l. sym (same n l))) in
+    (cells-sorted cs i g) (cells-sorted ds j h)
+    (cells-into cs ds i g same) (cells-into ds cs j h (λ n l. sym (same n l))) in
     let c = al .count in
     same-eights cs ds t u (omega arith) w (λ k l.
-      let l′ : k < entries 8 ds = omega arith in
-      let p = u32-halves cs ds t u (8 * k + 4) (al .values k l) in
-      let e : 8 * k + 4 + 2 ≡ 8 * k + 6 = omega arith in
-      ( al .numbers k l
-      , zero-field cs i g k l ∙ sym (zero-field ds j h k l′)
-      , p .0
-      , ap (u16-at cs) (sym e) ∙ (p .1 ∙ ap (u16-at ds) e) ))
+    let l′ : k < entries 8 ds = omega arith in
+    let p = u32-halves cs ds t u (8 * k + 4) (al .values k l) in
+    let e : 8 * k + 4 + 2 ≡ 8 * k + 6 = omega arith in (
+      al .numbers k l,
+      zero-field cs i g k l ∙ sym (zero-field ds j h k l′),
+      p .0,
+      ap (u16-at cs) (sym e) ∙ (p .1 ∙ ap (u16-at ds) e),
+    ))
 
 -- records
 
@@ -121,8 +122,8 @@ roots-into cs rs ls es rs′ ls′ es′ i h same k l =
     let n = number 4 rs k in
     let p = and-parts (ltb n 4096) (ltb (field 4 rs k 2) 1024) (root-passed cs rs i h k l .in-range) in
     let shown : record-in rs ls es n ≡ Some (root-at rs k) =
-      ap (λ (o : Option ℕ). or-else (root-of rs o) (or-else (link-in ls n) (ephemeron-in es n)))
-      (here 4 rs (roots-sorted cs rs i h) k l) in
+    ap (λ (o : Option ℕ). or-else (root-of rs o) (or-else (link-in ls n) (ephemeron-in es n)))
+    (here 4 rs (roots-sorted cs rs i h) k l) in
     shown-entry (number 4 rs′) (root-at rs′) (root-of rs′) (entries 4 rs′) n (root-at rs k) refl (λ j. refl)
     (only-root rs′ ls′ es′ (found 4 rs′ n) (found 8 ls′ n) (found 8 es′ n) (field 4 rs k 2)
     (sym (same n (ltb-true n 4096 (p .0))) ∙ shown))
@@ -135,10 +136,10 @@ links-into cs rs ls es rs′ ls′ es′ i h same k l =
     let q = link-passed cs rs ls i h k l in
     let p = four (ltb n 4096) (ltb (field 8 ls k 2) 1024) (ltb (field 8 ls k 4) 1024) (ltb (field 8 ls k 6) 4) (q .in-range) in
     let shown : record-in rs ls es n ≡ Some (link-at ls k) =
-      ap (λ (o : Option ℕ). or-else (root-of rs o) (or-else (link-in ls n) (ephemeron-in es n)))
-      (absent (found 4 rs n) (q .new))
-      ∙ ap (λ (o : Option ℕ). or-else (link-of ls o) (ephemeron-in es n))
-      (here 8 ls (links-sorted cs rs ls i h) k l) in
+    ap (λ (o : Option ℕ). or-else (root-of rs o) (or-else (link-in ls n) (ephemeron-in es n)))
+    (absent (found 4 rs n) (q .new))
+    ∙ ap (λ (o : Option ℕ). or-else (link-of ls o) (ephemeron-in es n))
+    (here 8 ls (links-sorted cs rs ls i h) k l) in
     shown-entry (number 8 ls′) (link-at ls′) (link-of ls′) (entries 8 ls′) n (link-at ls k) refl (λ j. refl)
     (only-link rs′ ls′ es′ (found 4 rs′ n) (found 8 ls′ n) (found 8 es′ n)
     (field 8 ls k 2) (field 8 ls k 4) (strength-of (field 8 ls k 6))
@@ -153,10 +154,10 @@ ephemerons-into cs rs ls es rs′ ls′ es′ i h same k l =
     let p = four (ltb n 4096) (ltb (field 8 es k 2) 1024) (ltb (field 8 es k 4) 1024) (ltb (field 8 es k 6) 1024) (q .in-range) in
     let free = and-parts (not (has 4 rs n)) (not (has 8 ls n)) (q .new) in
     let shown : record-in rs ls es n ≡ Some (ephemeron-at es k) =
-      ap (λ (o : Option ℕ). or-else (root-of rs o) (or-else (link-in ls n) (ephemeron-in es n)))
-      (absent (found 4 rs n) (free .0))
-      ∙ (ap (λ (o : Option ℕ). or-else (link-of ls o) (ephemeron-in es n)) (absent (found 8 ls n) (free .1))
-      ∙ ap (ephemeron-of es) (here 8 es (ephemerons-sorted cs rs ls es i h) k l)) in
+    ap (λ (o : Option ℕ). or-else (root-of rs o) (or-else (link-in ls n) (ephemeron-in es n)))
+    (absent (found 4 rs n) (free .0))
+    ∙ (ap (λ (o : Option ℕ). or-else (link-of ls o) (ephemeron-in es n)) (absent (found 8 ls n) (free .1))
+    ∙ ap (ephemeron-of es) (here 8 es (ephemerons-sorted cs rs ls es i h) k l)) in
     shown-entry (number 8 es′) (ephemeron-at es′) (ephemeron-of es′) (entries 8 es′) n (ephemeron-at es k) refl (λ j. refl)
     (only-ephemeron rs′ ls′ es′ (found 4 rs′ n) (found 8 ls′ n) (found 8 es′ n)
     (field 8 es k 2) (field 8 es k 4) (field 8 es k 6)
@@ -187,7 +188,7 @@ strength-fits : (cs rs ls : List ℕ) (i : ℕ) → links-fault cs rs ls i ≡ N
     field 8 ls k 6 < 4
 strength-fits cs rs ls i h k l =
     let p = four (ltb (number 8 ls k) 4096) (ltb (field 8 ls k 2) 1024) (ltb (field 8 ls k 4) 1024)
-      (ltb (field 8 ls k 6) 4) (link-passed cs rs ls i h k l .in-range) in
+    (ltb (field 8 ls k 6) 4) (link-passed cs rs ls i h k l .in-range) in
     ltb-true (field 8 ls k 6) 4 (p .3)
 
 pub roots-same : (cs rs ls es cs′ rs′ ls′ es′ : List ℕ) (i j : ℕ) → Bytes rs → Bytes rs′ →
@@ -195,31 +196,32 @@ pub roots-same : (cs rs ls es cs′ rs′ ls′ es′ : List ℕ) (i j : ℕ) �
     Same-records rs ls es rs′ ls′ es′ → rs ≡ rs′
 roots-same cs rs ls es cs′ rs′ ls′ es′ i j t u w x g h same =
     let al = alike (number 4 rs) (root-at rs) (entries 4 rs) (number 4 rs′) (root-at rs′) (entries 4 rs′)
-      (roots-sorted cs rs i g) (roots-sorted cs′ rs′ j h)
-      (roots-into cs rs ls es rs′ ls′ es′ i g same)
-      (roots-into cs′ rs′ ls′ es′ rs ls es j h (λ n l. sym (same n l))) in
+    (roots-sorted cs rs i g) (roots-sorted cs′ rs′ j h)
+    (roots-into cs rs ls es rs′ ls′ es′ i g same)
+    (roots-into cs′ rs′ ls′ es′ rs ls es j h (λ n l. sym (same n l))) in
     let c = al .count in
     same-fours rs rs′ t u (omega arith) w (λ k l.
-      (al .numbers k l, root-parts (field 4 rs k 2) (field 4 rs′ k 2) (al .values k l)))
+    (al .numbers k l, root-parts (field 4 rs k 2) (field 4 rs′ k 2) (al .values k l)))
 
 pub links-same : (cs rs ls es cs′ rs′ ls′ es′ : List ℕ) (i j : ℕ) → Bytes ls → Bytes ls′ →
     length ls % 8 ≡ 0 → length ls′ % 8 ≡ 0 → links-fault cs rs ls i ≡ None → links-fault cs′ rs′ ls′ j ≡ None →
     Same-records rs ls es rs′ ls′ es′ → ls ≡ ls′
 links-same cs rs ls es cs′ rs′ ls′ es′ i j t u w x g h same =
     let al = alike (number 8 ls) (link-at ls) (entries 8 ls) (number 8 ls′) (link-at ls′) (entries 8 ls′)
-      (links-sorted cs rs ls i g) (links-sorted cs′ rs′ ls′ j h)
-      (links-into cs rs ls es rs′ ls′ es′ i g same)
-      (links-into cs′ rs′ ls′ es′ rs ls es j h (λ n l. sym (same n l))) in
+    (links-sorted cs rs ls i g) (links-sorted cs′ rs′ ls′ j h)
+    (links-into cs rs ls es rs′ ls′ es′ i g same)
+    (links-into cs′ rs′ ls′ es′ rs ls es j h (λ n l. sym (same n l))) in
     let c = al .count in
     same-eights ls ls′ t u (omega arith) w (λ k l.
-      let l′ : k < entries 8 ls′ = omega arith in
-      let p = link-parts (field 8 ls k 2) (field 8 ls k 4) (field 8 ls′ k 2) (field 8 ls′ k 4)
-        (strength-of (field 8 ls k 6)) (strength-of (field 8 ls′ k 6)) (al .values k l) in
-      ( al .numbers k l
-      , p .0
-      , p .1
-      , strength-same (field 8 ls k 6) (field 8 ls′ k 6)
-        (strength-fits cs rs ls i g k l) (strength-fits cs′ rs′ ls′ j h k l′) (p .2) ))
+    let l′ : k < entries 8 ls′ = omega arith in
+    let p = link-parts (field 8 ls k 2) (field 8 ls k 4) (field 8 ls′ k 2) (field 8 ls′ k 4)
+    (strength-of (field 8 ls k 6)) (strength-of (field 8 ls′ k 6)) (al .values k l) in (
+      al .numbers k l,
+      p .0,
+      p .1,
+      strength-same (field 8 ls k 6) (field 8 ls′ k 6)
+          (strength-fits cs rs ls i g k l) (strength-fits cs′ rs′ ls′ j h k l′) (p .2),
+    ))
 
 pub ephemerons-same : (cs rs ls es cs′ rs′ ls′ es′ : List ℕ) (i j : ℕ) → Bytes es → Bytes es′ →
     length es % 8 ≡ 0 → length es′ % 8 ≡ 0 →
@@ -227,11 +229,11 @@ pub ephemerons-same : (cs rs ls es cs′ rs′ ls′ es′ : List ℕ) (i j : �
     Same-records rs ls es rs′ ls′ es′ → es ≡ es′
 ephemerons-same cs rs ls es cs′ rs′ ls′ es′ i j t u w x g h same =
     let al = alike (number 8 es) (ephemeron-at es) (entries 8 es) (number 8 es′) (ephemeron-at es′) (entries 8 es′)
-      (ephemerons-sorted cs rs ls es i g) (ephemerons-sorted cs′ rs′ ls′ es′ j h)
-      (ephemerons-into cs rs ls es rs′ ls′ es′ i g same)
-      (ephemerons-into cs′ rs′ ls′ es′ rs ls es j h (λ n l. sym (same n l))) in
+    (ephemerons-sorted cs rs ls es i g) (ephemerons-sorted cs′ rs′ ls′ es′ j h)
+    (ephemerons-into cs rs ls es rs′ ls′ es′ i g same)
+    (ephemerons-into cs′ rs′ ls′ es′ rs ls es j h (λ n l. sym (same n l))) in
     let c = al .count in
     same-eights es es′ t u (omega arith) w (λ k l.
-      let p = ephemeron-parts (field 8 es k 2) (field 8 es k 4) (field 8 es k 6)
-        (field 8 es′ k 2) (field 8 es′ k 4) (field 8 es′ k 6) (al .values k l) in
-      (al .numbers k l, p .0, p .1, p .2))
+    let p = ephemeron-parts (field 8 es k 2) (field 8 es k 4) (field 8 es k 6)
+    (field 8 es′ k 2) (field 8 es′ k 4) (field 8 es′ k 6) (al .values k l) in
+    (al .numbers k l, p .0, p .1, p .2))
