@@ -6,3 +6,7 @@ pub mod Order
 pub mod Tables
 pub mod Shown
 pub mod Opened
+pub mod Halves
+pub mod Alike
+pub mod Owned
+pub mod Alone

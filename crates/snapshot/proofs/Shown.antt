@@ -35,7 +35,7 @@ cell-shown cs t l h =
     ap isSome (table-at 1024 (cell-in cs) t (ltb-true t 1024 l)) ∙ some-size cs (found 8 cs t) h
 
 -- the parts of four tests
-four : (a b c d : Bool) → (a && (b && (c && d))) ≡ true → (a ≡ true) × (b ≡ true) × (c ≡ true) × (d ≡ true)
+pub four : (a b c d : Bool) → (a && (b && (c && d))) ≡ true → (a ≡ true) × (b ≡ true) × (c ≡ true) × (d ≡ true)
 four a b c d e =
     let p = and-parts a (b && (c && d)) e in
     let q = and-parts b (c && d) (p .1) in

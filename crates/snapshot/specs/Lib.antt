@@ -4,3 +4,4 @@ pub mod Header
 pub mod Entries
 pub mod Laid
 pub mod Snapshot
+pub mod Alone
