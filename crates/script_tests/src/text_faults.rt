@@ -1,4 +1,6 @@
 use super::answers::check_answers;
+use live::live::LiveHeap;
+use script::line::answer;
 use std::test::*;
 
 #[test]
@@ -102,4 +104,15 @@ fn the_text_is_judged_before_the_heap(rt: LibcRuntime) -> Result<(), Fail> {
             ("c 1024 0", "no h 1 2"),
         ],
     )
+}
+
+// The bytes of `c`, `0` and `s` with their top bit set.
+#[test]
+fn bytes_above_127_are_no_letters_or_digits(rt: LibcRuntime) -> Result<(), Fail> {
+    let mut heap = LiveHeap::new();
+    let mut out = Vec::new(rt.alloc());
+    answer(&mut heap, b"\xe3 0 1", &mut out)?;
+    answer(&mut heap, b"c \xb0 1", &mut out)?;
+    answer(&mut heap, b"g \xf3", &mut out)?;
+    check_eq(&out[..], b"no t 31 0\nno t 33 2\nno t 33 2\n")
 }
