@@ -33,7 +33,11 @@ fn print_summary<H: Heap>(out: &mut Vec<u8>, heap: &H) -> Result<(), AllocError>
 }
 
 // A line with the grades, where a scheme is asked for.
-fn print_grading<H: Heap>(out: &mut Vec<u8>, heap: &H, scheme: Option<SchemeName>) -> Result<(), AllocError>
+fn print_grading<H: Heap>(
+    out: &mut Vec<u8>,
+    heap: &H,
+    scheme: Option<SchemeName>,
+) -> Result<(), AllocError>
     ensures { λ r.
         let text = graded-line scheme (H·Heap .meaning (now (heap .entry))) in
         ⌜ Writes r (now (out .entry)) text (now (out .exit)) ⌝ }
@@ -55,7 +59,11 @@ fn print_file_refusal(out: &mut Vec<u8>, fault: Fault) -> Result<(), AllocError>
     Ok(())
 }
 
-fn print_heap<H: Heap>(out: &mut Vec<u8>, heap: &H, scheme: Option<SchemeName>) -> Result<(), AllocError>
+fn print_heap<H: Heap>(
+    out: &mut Vec<u8>,
+    heap: &H,
+    scheme: Option<SchemeName>,
+) -> Result<(), AllocError>
     ensures { λ r.
         let text = shown-text scheme (H·Heap .meaning (now (heap .entry))) in
         ⌜ Writes r (now (out .entry)) text (now (out .exit)) ⌝ }
@@ -67,7 +75,11 @@ fn print_heap<H: Heap>(out: &mut Vec<u8>, heap: &H, scheme: Option<SchemeName>) 
 
 // Opens the file's bytes and prints what they hold: a summary and, where a scheme is
 // asked for, the grades; or the first fault of a file that does not open.
-pub fn inspect(bytes: &[u8], scheme: Option<SchemeName>, out: &mut Vec<u8>) -> Result<(), AllocError>
+pub fn inspect(
+    bytes: &[u8],
+    scheme: Option<SchemeName>,
+    out: &mut Vec<u8>,
+) -> Result<(), AllocError>
     ensures { λ r.
         let text = inspect-text (now (bytes .entry)) scheme in
         ⌜ Writes r (now (out .entry)) text (now (out .exit)) ⌝ }

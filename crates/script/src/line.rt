@@ -120,7 +120,11 @@ where
 }
 
 // Grades the heap under the scheme that is named, and prints what was found.
-pub fn print_scheme<H: Heap>(out: &mut Vec<u8>, heap: &H, scheme: SchemeName) -> Result<(), AllocError>
+pub fn print_scheme<H: Heap>(
+    out: &mut Vec<u8>,
+    heap: &H,
+    scheme: SchemeName,
+) -> Result<(), AllocError>
     ensures { λ r.
         let text = scheme-text scheme (H·Heap .meaning (now (heap .entry))) in
         ⌜ Writes r (now (out .entry)) text (now (out .exit)) ⌝ }

@@ -62,14 +62,17 @@ fn strength(letter: char) -> Option<u32>
     }
 }
 
-fn scheme(letter: char) -> Option<SchemeName>
-    ensures { λ r. ⌜ r ≡ scheme-letter letter ⌝ }
-{
-    match letter {
-        's' => Some(SchemeName::Strength),
-        'b' => Some(SchemeName::Bytes),
-        'd' => Some(SchemeName::Depth),
-        _ => None,
+impl SchemeName {
+    // The scheme that a letter names.
+    pub fn of(letter: char) -> Option<SchemeName>
+        ensures { λ r. ⌜ r ≡ scheme-letter letter ⌝ }
+    {
+        match letter {
+            's' => Some(SchemeName::Strength),
+            'b' => Some(SchemeName::Bytes),
+            'd' => Some(SchemeName::Depth),
+            _ => None,
+        }
     }
 }
 
@@ -105,7 +108,7 @@ impl Token<'_> {
         ensures { λ r. ⌜ r ≡ scheme-in (lexeme-of (self .entry)) ⌝ }
     {
         match self {
-            Token::Letter { letter, at } => want(scheme(*letter as char), at),
+            Token::Letter { letter, at } => want(SchemeName::of(*letter as char), at),
             Token::Number { at, .. } | Token::Other { at } => refused(Cause::BadWord, at),
         }
     }

@@ -9,14 +9,14 @@ use Rattle.report.proofs.inspect.print_grading.Needs as need
 pub returns-in-Break-print-scheme : need.returns-in-Break-print-scheme
 returns-in-Break-print-scheme g c =
     let e = ap (λ (o : Option SchemeName). graded-line o (g .H·Heap .meaning (c .args .heap .now))) (sym
-        (c .in-Some .is)) in
+    (c .in-Some .is)) in
     failed (c .from-residual .result) _ (c .from-residual .ensures .0)
     (full-as e (full-front (10 ∷ []) (c .in-Break-print-scheme .ensures tt)))
 
 pub returns-in-Break-write-byte : need.returns-in-Break-write-byte
 returns-in-Break-write-byte g c =
     let e = ap (λ (o : Option SchemeName). graded-line o (g .H·Heap .meaning (c .args .heap .now))) (sym
-        (c .in-Some .is)) in
+    (c .in-Some .is)) in
     failed (c .from-residual-in-Break-write-byte .result) _
     (c .from-residual-in-Break-write-byte .ensures .0)
     (full-as e (full-then (c .in-Continue-print-scheme .ensures tt) (c .in-Break-write-byte .ensures tt)))
@@ -24,6 +24,6 @@ returns-in-Break-write-byte g c =
 pub returns : need.returns
 returns g c =
     let e = ap (λ (o : Option SchemeName). graded-line o (g .H·Heap .meaning (c .args .heap .now))) (sym
-        (c .in-Some .is)) in
+    (c .in-Some .is)) in
     as-text e
     (and-then (c .in-Continue-print-scheme .ensures tt) (c .in-Continue-write-byte .ensures tt))
