@@ -14,5 +14,5 @@ returns-in-Ok c =
 pub returns-in-Err : need.returns-in-Err
 returns-in-Err c =
     let e = refusal-shown (file-fault (c .args .bytes .now)) (c .args .scheme) (c .in-Err .fault)
-      (laid-down (c .args .bytes .now)) (c .in-Err .ensures tt .answers) in
+    (laid-down (c .args .bytes .now)) (c .in-Err .ensures tt .answers) in
     writes-as (c .print-file-refusal .result) _ _ e (c .print-file-refusal .ensures)
