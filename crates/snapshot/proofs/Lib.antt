@@ -10,3 +10,4 @@ pub mod Halves
 pub mod Alike
 pub mod Owned
 pub mod Alone
+pub mod Examples
