@@ -8,7 +8,7 @@ use Rattle.std.specs.declared.result.Result.the-variants.{Ok, Err}
 use Rattle.model.specs.declared.fault.Layer.{Layer}
 use Rattle.model.specs.declared.fault.Layer.the-variants.{Text, Heap}
 use Rattle.model.specs.declared.fault.Cause.{Cause}
-use Rattle.model.specs.declared.fault.Cause.the-variants.{CellNumber, CellFilled, CellSize, RecordNumber, RecordFilled, CellEmpty, StrengthNumber, RecordEmpty, RowsShort, LimitNumber, LineLong, NoCommand, WordCount, BadWord}
+use Rattle.model.specs.declared.fault.Cause.the-variants.{CellNumber, CellFilled, CellSize, RecordNumber, RecordFilled, CellEmpty, StrengthNumber, RecordEmpty, RowsShort, StepsShort, NotSettled, LimitNumber, LineLong, NoCommand, WordCount, BadWord}
 use Rattle.model.specs.declared.fault.Fault.{Fault}
 
 -- the number of each cause: the one table of them
@@ -22,6 +22,8 @@ number-of CellEmpty = 6
 number-of StrengthNumber = 7
 number-of RecordEmpty = 8
 number-of RowsShort = 9
+number-of StepsShort = 11
+number-of NotSettled = 12
 number-of LimitNumber = 13
 number-of LineLong = 30
 number-of NoCommand = 31
@@ -39,6 +41,8 @@ layer-of CellEmpty = Heap
 layer-of StrengthNumber = Heap
 layer-of RecordEmpty = Heap
 layer-of RowsShort = Heap
+layer-of StepsShort = Heap
+layer-of NotSettled = Heap
 layer-of LimitNumber = Heap
 layer-of LineLong = Text
 layer-of NoCommand = Text
