@@ -8,7 +8,6 @@ use mathlib.Core.List.{List, [], _∷_, _++_}
 use mathlib.Core.Logic.{_⊎_}
 use lib.Dec.{leb}
 use lib.ListN.{length, getD, set, take, drop, replicate}
-use Rattle.std.specs.Options.{isSome}
 use Rattle.std.specs.declared.option.Option.{Option}
 use Rattle.std.specs.declared.option.Option.the-variants.{Some, None}
 use Rattle.std.specs.declared.result.Result.{Result}
@@ -19,13 +18,13 @@ use Rattle.model.specs.declared.record.Record.{Record}
 use Rattle.model.specs.declared.record.Record.the-variants.{Root, Link, Ephemeron}
 use Rattle.model.specs.declared.row.Row.{Row}
 use Rattle.model.specs.declared.row.Why.{Why}
-use Rattle.model.specs.Faults.{fault, unless, first, left}
+use Rattle.model.specs.Faults.{fault, unless, first, answer, left}
 use Rattle.model.specs.Meaning.{Meaning, record-at}
 use Rattle.model.specs.Schemes.{Scheme}
 use Rattle.model.specs.Settling.{Rows, graded}
 use Rattle.model.specs.Derivations.{Derivation, by-root, by-link, by-ephemeron, grade-of}
 use Rattle.model.specs.Calls.{cell-fault}
-use Rattle.model.specs.Grading.{Settled, rows-fault, grade-after}
+use Rattle.model.specs.Grading.{Settled, rows-fault}
 
 -- the cells that a record draws on
 abbrev pub sources : Record → List ℕ
@@ -77,53 +76,49 @@ explain h rows order (suc t) marks =
 unfoldable pub steps-of : {G : Type 0} → Meaning → Rows G → ℕ → ℕ → List ℕ
 steps-of h rows c t = explain h rows (cells-by-turn rows) (t + 1) (set (replicate 1024 false) c true)
 
--- .. and none where it is unsettled
-abbrev pub steps-by : {G : Type 0} → Meaning → Rows G → ℕ → Option (Row G) → List ℕ
-steps-by h rows c None = []
-steps-by h rows c (Some row) = steps-of h rows c (row .turn)
-
-abbrev pub steps-to : {G : Type 0} → Meaning → Rows G → ℕ → List ℕ
-steps-to h rows c = steps-by h rows c (getD rows c None)
-
--- the row of cell c at the end of the settling rule
-abbrev pub row-of : {G : Type 0} → Scheme G → Meaning → ℕ → Option (Row G)
-row-of s h c = getD (graded s h .rows) c None
-
--- the steps that `why` lists
-abbrev pub why-steps : {G : Type 0} → Scheme G → Meaning → ℕ → List ℕ
-why-steps s h c = steps-to h (graded s h .rows) c
-
 -- a list too short for the steps
 abbrev pub room-fault : List ℕ → List ℕ → Option Fault
 room-fault path steps = unless (leb (length path) (length steps)) (fault StepsShort 0)
 
--- the rows are too few, the number is no cell's, the cell is unsettled, or the list is too short
-abbrev pub why-fault : {G : Type 0} → Scheme G → Meaning → ℕ → Rows G → List ℕ → Option Fault
-why-fault s h c rows steps =
-    first (rows-fault rows)
-    (first (cell-fault c 2)
-    (first (unless (isSome (row-of s h c)) (fault NotSettled 2))
-    (room-fault (why-steps s h c) steps)))
+-- what is told of a cell by its row: its grade and the count of its steps; nothing of a cell that is
+-- unsettled, or where the list is too short
+abbrev pub told-by : {G : Type 0} → Meaning → Rows G → ℕ → List ℕ → Option (Row G) → Result (Why G) Fault
+told-by h rows c steps None = Err (fault NotSettled 2)
+told-by h rows c steps (Some row) =
+    let path = steps-of h rows c (row .turn) in
+    answer (room-fault path steps) (record { grade = row .grade; count = length path })
 
--- the grade of the row and the count of steps; a fault goes first
-abbrev pub answer-by : {G : Type 0} → Option Fault → Option (Row G) → ℕ → Result (Why G) Fault
-answer-by (Some f) o k = Err f
-answer-by None None k = Err (fault NotSettled 2)
-answer-by None (Some row) k = Ok (record { grade = row .grade; count = k })
+-- .. and what the list then holds: the steps, and beyond them what it held
+abbrev pub listed-by : {G : Type 0} → Meaning → Rows G → ℕ → List ℕ → Option (Row G) → List ℕ
+listed-by h rows c steps None = steps
+listed-by h rows c steps (Some row) =
+    let path = steps-of h rows c (row .turn) in
+    left (room-fault path steps) (path ++ drop (length path) steps) steps
+
+abbrev pub told : {G : Type 0} → Meaning → Rows G → ℕ → List ℕ → Result (Why G) Fault
+told h rows c steps = told-by h rows c steps (getD rows c None)
+
+abbrev pub listed : {G : Type 0} → Meaning → Rows G → ℕ → List ℕ → List ℕ
+listed h rows c steps = listed-by h rows c steps (getD rows c None)
+
+-- too few rows, or a number that is no cell's: then nothing is graded
+abbrev pub why-fault : {G : Type 0} → ℕ → Rows G → Option Fault
+why-fault c rows = first (rows-fault rows) (cell-fault c 2)
+
+-- a fault found before anything is graded; else what is told of the cell by the graded rows
+abbrev pub unless-refused : {A : Type 0} → Option Fault → Result A Fault → Result A Fault
+unless-refused None r = r
+unless-refused (Some f) r = Err f
 
 abbrev pub why-answer : {G : Type 0} → Scheme G → Meaning → ℕ → Rows G → List ℕ → Result (Why G) Fault
-why-answer s h c rows steps =
-    answer-by (why-fault s h c rows steps) (row-of s h c) (length (why-steps s h c))
+why-answer s h c rows steps = unless-refused (why-fault c rows) (told h (graded s h .rows) c steps)
 
--- the rows are graded unless there are too few or the number is no cell's
+-- the first 1,024 rows are the rule's, the others stand
 abbrev pub rows-after : {G : Type 0} → Scheme G → Meaning → ℕ → Rows G → Rows G
-rows-after s h c rows = left (cell-fault c 2) (grade-after s h rows) rows
+rows-after s h c rows = left (why-fault c rows) (graded s h .rows ++ drop 1024 rows) rows
 
--- the steps, and what the list held beyond them; a refusal leaves it alone
 abbrev pub steps-after : {G : Type 0} → Scheme G → Meaning → ℕ → Rows G → List ℕ → List ℕ
-steps-after s h c rows steps =
-    left (why-fault s h c rows steps)
-    (why-steps s h c ++ drop (length (why-steps s h c)) steps) steps
+steps-after s h c rows steps = left (why-fault c rows) (listed h (graded s h .rows) c steps) steps
 
 -- r stands in the list
 abbrev pub Among : ℕ → List ℕ → Type 0
