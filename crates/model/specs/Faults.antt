@@ -8,8 +8,12 @@ use Rattle.std.specs.declared.result.Result.the-variants.{Ok, Err}
 use Rattle.model.specs.declared.fault.Layer.{Layer}
 use Rattle.model.specs.declared.fault.Layer.the-variants.{Text, Heap, File}
 use Rattle.model.specs.declared.fault.Cause.{Cause}
-use Rattle.model.specs.declared.fault.Cause.the-variants.{CellNumber, CellFilled, CellSize, RecordNumber, RecordFilled, CellEmpty, StrengthNumber, RecordEmpty, RowsShort, LimitNumber, LineLong, NoCommand, WordCount, BadWord}
-use Rattle.model.specs.declared.fault.Cause.the-variants.{FileLength, LeadBytes, SectionPlace, SectionLength, FieldRange, NumberOrder, RecordTwice, CellMissing}
+use Rattle.model.specs.declared.fault.Cause.the-variants.{CellNumber, CellFilled, CellSize, CellEmpty}
+use Rattle.model.specs.declared.fault.Cause.the-variants.{RecordNumber, RecordFilled, RecordEmpty, StrengthNumber}
+use Rattle.model.specs.declared.fault.Cause.the-variants.{RowsShort, StepsShort, NotSettled, LimitNumber}
+use Rattle.model.specs.declared.fault.Cause.the-variants.{FileLength, LeadBytes, SectionPlace, SectionLength}
+use Rattle.model.specs.declared.fault.Cause.the-variants.{FieldRange, NumberOrder, RecordTwice, CellMissing}
+use Rattle.model.specs.declared.fault.Cause.the-variants.{LineLong, NoCommand, WordCount, BadWord}
 use Rattle.model.specs.declared.fault.Fault.{Fault}
 
 -- the number of each cause: the one table of them
@@ -23,6 +27,8 @@ number-of CellEmpty = 6
 number-of StrengthNumber = 7
 number-of RecordEmpty = 8
 number-of RowsShort = 9
+number-of StepsShort = 11
+number-of NotSettled = 12
 number-of LimitNumber = 13
 number-of FileLength = 20
 number-of LeadBytes = 21
@@ -48,6 +54,8 @@ layer-of CellEmpty = Heap
 layer-of StrengthNumber = Heap
 layer-of RecordEmpty = Heap
 layer-of RowsShort = Heap
+layer-of StepsShort = Heap
+layer-of NotSettled = Heap
 layer-of LimitNumber = Heap
 layer-of FileLength = File
 layer-of LeadBytes = File

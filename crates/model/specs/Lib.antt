@@ -6,3 +6,4 @@ pub mod Calls
 pub mod Settling
 pub mod Derivations
 pub mod Grading
+pub mod Explaining

@@ -44,6 +44,10 @@ pub enum Cause {
     RecordEmpty,
     // fewer than 1,024 rows
     RowsShort,
+    // more steps than the list holds
+    StepsShort,
+    // why of a cell that is empty or unsettled
+    NotSettled,
     // a limit made of a number that is no grade
     LimitNumber,
     // a file of fewer than 36 or more than 65,536 bytes
@@ -103,6 +107,8 @@ impl Cause {
             Cause::StrengthNumber => 7,
             Cause::RecordEmpty => 8,
             Cause::RowsShort => 9,
+            Cause::StepsShort => 11,
+            Cause::NotSettled => 12,
             Cause::LimitNumber => 13,
             Cause::FileLength => 20,
             Cause::LeadBytes => 21,

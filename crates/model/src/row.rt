@@ -22,3 +22,10 @@ pub struct Counts {
     pub settled: u32,
     pub weighed: u32,
 }
+
+// Why a cell survives: its grade, and how many records hold it up.
+#[derive(Clone, Copy, PartialEq, Eq, Debug)]
+pub struct Why<G> {
+    pub grade: G,
+    pub count: u32,
+}
