@@ -4,7 +4,7 @@ use std::alloc::Global;
 use std::test::*;
 
 // Whether the lines, one after another on one heap that begins empty, are answered so.
-pub fn check_answers(memory: Global, table: &[(&str, &str)]) -> Result<(), Fail> {
+pub(super) fn check_answers(memory: Global, table: &[(&str, &str)]) -> Result<(), Fail> {
     let mut heap = LiveHeap::new();
     let mut out = Vec::new(memory);
     for (line, expected) in table {
