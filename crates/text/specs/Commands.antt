@@ -13,7 +13,7 @@ use Rattle.model.specs.declared.fault.Cause.the-variants.{LineLong, NoCommand, 
 use Rattle.model.specs.Faults.{fault}
 use Rattle.text.specs.declared.refusal.Refusal.{Refusal}
 use Rattle.text.specs.declared.command.Command.{Command}
-use Rattle.text.specs.declared.command.Command.the-variants.{Put, Root, Link, Tie, Erase, Grade}
+use Rattle.text.specs.declared.command.Command.the-variants.{Put, Root, Link, Tie, Erase, Grade, Why}
 use Rattle.text.specs.declared.command.SchemeName.{SchemeName}
 use Rattle.text.specs.declared.command.SchemeName.the-variants.{Strength, Bytes, Depth}
 use Rattle.text.specs.Words.{Lexeme, numeral, letter, other, Reading, reading}
@@ -102,6 +102,12 @@ erase-in w = counted w 2 (then (number-in (w .first)) (λ number. Ok (Erase numb
 abbrev pub grade-in : Reading → Result Command Refusal
 grade-in w = counted w 2 (then (scheme-in (w .first)) (λ scheme. Ok (Grade scheme)))
 
+-- w M N
+abbrev pub why-in : Reading → Result Command Refusal
+why-in w =
+    counted w 3 (then (scheme-in (w .first)) (λ scheme.
+    then (number-in (w .second)) (λ cell. Ok (Why scheme cell))))
+
 abbrev pub by-letter : ℕ → Reading → Result Command Refusal
 by-letter b w =
     cond (eqb b 99) (put-in w)
@@ -110,7 +116,8 @@ by-letter b w =
     (cond (eqb b 101) (tie-in w)
     (cond (eqb b 120) (erase-in w)
     (cond (eqb b 103) (grade-in w)
-    (refuse NoCommand 0))))))
+    (cond (eqb b 119) (why-in w)
+    (refuse NoCommand 0)))))))
 
 -- the first word names the command
 abbrev pub by-verb : Lexeme → Reading → Result Command Refusal

@@ -3,7 +3,7 @@ ghost use Rattle.std.specs.declared.result.Result.the-variants.{Ok, Err};
 ghost use Rattle.text.specs.Tokens.{lexeme-of, reading-of};
 ghost use Rattle.text.specs.Commands.{wanted, number-in, strength-letter, scheme-letter};
 ghost use Rattle.text.specs.Commands.{strength-in, scheme-in, counted, command-in};
-ghost use Rattle.text.specs.Commands.{put-in, root-in, link-in, tie-in, erase-in, grade-in};
+ghost use Rattle.text.specs.Commands.{put-in, root-in, link-in, tie-in, erase-in, grade-in, why-in};
 use crate::number::value;
 use crate::refusal::Refusal;
 use crate::refusal::refused;
@@ -47,6 +47,10 @@ pub enum Command {
     },
     Grade {
         scheme: SchemeName,
+    },
+    Why {
+        scheme: SchemeName,
+        cell: u32,
     },
 }
 
@@ -191,6 +195,15 @@ impl Words<'_> {
         Ok(Command::Grade { scheme })
     }
 
+    fn why(&self) -> Result<Command, Refusal>
+        ensures { λ r. ⌜ r ≡ why-in (reading-of (now (self .entry))) ⌝ }
+    {
+        self.expect(3)?;
+        let scheme = self.first.scheme()?;
+        let cell = self.second.number()?;
+        Ok(Command::Why { scheme, cell })
+    }
+
     // The command that the words make, or their first fault.
     pub fn command(&self) -> Result<Command, Refusal>
         ensures { λ r. ⌜ r ≡ command-in (reading-of (now (self .entry))) ⌝ }
@@ -205,6 +218,7 @@ impl Words<'_> {
             'e' => self.tie(),
             'x' => self.erase(),
             'g' => self.grade(),
+            'w' => self.why(),
             _ => refused(Cause::NoCommand, 0),
         }
     }
