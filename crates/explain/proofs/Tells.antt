@@ -4,6 +4,7 @@ use mathlib.Core.Path.{_≡_, refl, sym, ap, subst, _∙_}
 use mathlib.Core.List.{List, _++_}
 use native.Mathlib.Omega.{arith}
 use lib.ListN.{length, getD, take, drop}
+use Rattle.std.specs.Vec.{made}
 use Rattle.std.specs.declared.option.Option.{Option}
 use Rattle.std.specs.declared.option.Option.the-variants.{Some, None}
 use Rattle.std.specs.declared.result.Result.{Result}
@@ -21,11 +22,12 @@ use Rattle.model.specs.Faults.{fault, answer, left}
 use Rattle.model.specs.Schemes.{Scheme, Lawful}
 use Rattle.model.specs.Meaning.{Meaning, Well-formed}
 use Rattle.model.specs.Settling.{Rows, State, filled, best, settle-by, step, settle, graded}
-use Rattle.model.specs.Grading.{rows-fault, grade-answer, grade-after}
-use Rattle.model.specs.Explaining.{steps-of, room-fault, told, listed, why-fault, why-answer, rows-after, steps-after}
+use Rattle.model.specs.Grading.{rows-fault, grade-answer, grade-after, Numbered, All-backed}
+use Rattle.model.specs.Explaining.{steps-of, room-fault, told, listed, why-fault, why-answer, rows-after, steps-after, Unfolds}
 use Rattle.model.proofs.Steps.{fresh, graded-done}
 use Rattle.model.proofs.Turns.{graded-ordered}
 use Rattle.explain.specs.Walking.{Timely}
+use Rattle.explain.proofs.Unfolding.{told-unfolds}
 
 -- the end of a list from a place on
 pub end-of : (found : List ℕ) (i n : ℕ) → length found ≤ n → take (n - i) (drop i found) ≡ drop i found
@@ -128,6 +130,16 @@ module _ {G : Type 0} (s : Scheme G) (law : Lawful s) (h : Meaning) (wf : Well-f
       pub lists : (left : List ℕ) → left ≡ listed h (take 1024 after) c steps
           → left ≡ steps-after s h c lent steps
       lists left e = rw (no-fault lent c enough small) (rw front-graded at e)
+
+      pub unfolds : (left : List ℕ) (r : Result (Why G) Fault) → r ≡ told h (take 1024 after) c steps
+          → left ≡ listed h (take 1024 after) c steps
+          → made r (λ w. Unfolds s h (take 1024 after) (take (w .count) left) c (w .grade))
+      unfolds left r p q =
+          told-unfolds s h (take 1024 after) (graded s h .turn) front-wide
+          (subst (All-backed s h) (sym front-graded) (graded-done s law h wf .0 .backed))
+          (subst (λ (z : Rows G). Numbered z (graded s h .turn)) (sym front-graded)
+          (graded-ordered s law h wf .numbered))
+          front-timely c small steps left r p q
 
 -- a fault that is found first is answered, and nothing is changed
 module _ {G : Type 0} (s : Scheme G) (h : Meaning) (c : ℕ) (lent : Rows G) (steps : List ℕ)
