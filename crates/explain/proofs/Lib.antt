@@ -1,2 +1,3 @@
 mod Walks
+mod Unfolding
 mod Tells

@@ -4,6 +4,7 @@ use mathlib.Core.Path.{_≡_, refl, sym, ap, subst, _∙_}
 use mathlib.Core.List.{List, _++_}
 use native.Mathlib.Omega.{arith}
 use lib.ListN.{length, getD, take, drop}
+use Rattle.std.specs.Vec.{made}
 use Rattle.std.specs.declared.option.Option.{Option}
 use Rattle.std.specs.declared.option.Option.the-variants.{Some, None}
 use Rattle.std.specs.declared.result.Result.{Result}
@@ -21,15 +22,12 @@ use Rattle.model.specs.Faults.{fault, answer, left}
 use Rattle.model.specs.Schemes.{Scheme, Lawful}
 use Rattle.model.specs.Meaning.{Meaning, Well-formed}
 use Rattle.model.specs.Settling.{Rows, State, filled, best, settle-by, step, settle, graded}
-use Rattle.model.specs.Grading.{rows-fault, grade-answer, grade-after}
-use Rattle.model.specs.Explaining.{steps-of, room-fault, told, listed, why-fault, why-answer, rows-after, steps-after}
+use Rattle.model.specs.Grading.{rows-fault, grade-answer, grade-after, Numbered, All-backed}
+use Rattle.model.specs.Explaining.{steps-of, room-fault, told, listed, why-fault, why-answer, rows-after, steps-after, Unfolds}
 use Rattle.model.proofs.Steps.{fresh, graded-done}
 use Rattle.model.proofs.Turns.{graded-ordered}
 use Rattle.explain.specs.Walking.{Timely}
-
--- the end of a list from a place on
-pub end-of : (found : List ℕ) (i n : ℕ) → length found ≤ n → take (n - i) (drop i found) ≡ drop i found
-end-of found i n l = take-all (n - i) (drop i found) (simp length-drop (omega arith))
+use Rattle.explain.proofs.Unfolding.{told-unfolds}
 
 -- a fault is handed on, and a count becomes part of the answer
 err-on : {A B : Type 0} (f : Option Fault) (x : Fault) (a : A) (b : B) → Err x ≡ answer f a → Err x ≡ answer f b
@@ -44,24 +42,31 @@ no-err : {A : Type 0} (f : Option Fault) (x : Fault) (a : A) → f ≡ None → 
 no-err None x a n e = let z : _≡_ {A = ℕ} 0 1 = cc in omega arith
 no-err (Some y) x a n e = let z : _≡_ {A = ℕ} 0 1 = cc in omega arith
 
--- the cell is settled, and the path is that of its steps
+-- the cell is settled, and the steps were found from a place on
 module _ {G : Type 0} (h : Meaning) (rows : Rows G) (c : ℕ) (steps : List ℕ) (row : Row G)
-    (is-row : getD rows c None ≡ Some row)
-    (path : List ℕ) (is-path : path ≡ steps-of h rows c (row .turn)) where
-  pub told-err : (x : Fault) → Err x ≡ answer (room-fault path steps) (length path)
-      → Err x ≡ told h rows c steps
-  told-err x e = rw (is-row, ← is-path) (err-on (room-fault path steps) x _ _ e)
+    (is-row : getD rows c None ≡ Some row) (found : List ℕ) (at : ℕ) (short : length found ≤ 1024)
+    (walked : drop at found ≡ steps-of h rows c (row .turn)) where
+  abbrev path : List ℕ
+  path = take (1024 - at) (drop at found)
+
+  is-path : path ≡ steps-of h rows c (row .turn)
+  is-path = take-all (1024 - at) (drop at found) (simp length-drop (omega arith)) ∙ walked
+
+  -- so the answer is the fault of the list, or the grade with the count
+  pub told-err : (x y : Fault) (r : Result (Why G) Fault) → r ≡ Err y → y ≡ x
+      → Err x ≡ answer (room-fault path steps) (length path) → r ≡ told h rows c steps
+  told-err x y r p q e =
+      p ∙ (ap Err q ∙ rw (is-row, ← is-path) (err-on (room-fault path steps) x _ _ e))
 
   pub told-ok : (n : ℕ) → Ok n ≡ answer (room-fault path steps) (length path)
       → Ok (record { grade = row .grade; count = n }) ≡ told h rows c steps
-  told-ok n e =
-      rw (is-row, ← is-path)
-      (ok-on (room-fault path steps) n (length path) (λ (k : ℕ). why-of k) e)
+  told-ok n e = rw (is-row, ← is-path) (ok-on (room-fault path steps) n (length path) why-of e)
     where
       why-of : ℕ → Why G
       why-of k = record { grade = row .grade; count = k }
 
-  pub listed-as : (after : List ℕ) → after ≡ left (room-fault path steps) (path ++ drop (length path) steps) steps
+  pub listed-as : (after : List ℕ)
+      → after ≡ left (room-fault path steps) (path ++ drop (length path) steps) steps
       → after ≡ listed h rows c steps
   listed-as after e = rw (is-row, ← is-path) e
 
@@ -128,6 +133,16 @@ module _ {G : Type 0} (s : Scheme G) (law : Lawful s) (h : Meaning) (wf : Well-f
       pub lists : (left : List ℕ) → left ≡ listed h (take 1024 after) c steps
           → left ≡ steps-after s h c lent steps
       lists left e = rw (no-fault lent c enough small) (rw front-graded at e)
+
+      pub unfolds : (left : List ℕ) (r : Result (Why G) Fault) → r ≡ told h (take 1024 after) c steps
+          → left ≡ listed h (take 1024 after) c steps
+          → made r (λ w. Unfolds s h (take 1024 after) (take (w .count) left) c (w .grade))
+      unfolds left r p q =
+          told-unfolds s h (take 1024 after) (graded s h .turn) front-wide
+          (subst (All-backed s h) (sym front-graded) (graded-done s law h wf .0 .backed))
+          (subst (λ (z : Rows G). Numbered z (graded s h .turn)) (sym front-graded)
+          (graded-ordered s law h wf .numbered))
+          front-timely c small steps left r p q
 
 -- a fault that is found first is answered, and nothing is changed
 module _ {G : Type 0} (s : Scheme G) (h : Meaning) (c : ℕ) (lent : Rows G) (steps : List ℕ)

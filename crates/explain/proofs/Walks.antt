@@ -110,10 +110,10 @@ module _ {G : Type 0} (h : Meaning) (rows : Rows G) (order : List ℕ) where
   walk-more t u marks rest e =
       ap (λ (n : ℕ). explain h rows order n marks ++ rest) (e ∙ add-one u) ∙ walk-turn u marks rest
 
-  pub walk-end : (t : ℕ) (marks : List Bool) (rest : List ℕ) → t ≡ 0
-      → explain h rows order t marks ++ rest ≡ rest
+  pub walk-end : (t : ℕ) (marks : List Bool) (rest whole : List ℕ) → t ≡ 0
+      → explain h rows order t marks ++ rest ≡ whole → rest ≡ whole
   unfolding explain
-  walk-end t marks rest e = ap (λ (n : ℕ). explain h rows order n marks ++ rest) e
+  walk-end t marks rest whole e f = ap (λ (n : ℕ). explain h rows order n marks ++ rest) (sym e) ∙ f
 
 pub walk-first : {G : Type 0} (h : Meaning) (rows : Rows G) (order found : List ℕ) (c t n : ℕ)
     → order ≡ cells-by-turn rows → length found ≤ n

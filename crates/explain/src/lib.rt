@@ -1,10 +1,11 @@
 ghost use Prim.Native.Nat.{_<_, _≤_};
 ghost use mathlib.Core.Path.{_≡_};
 ghost use mathlib.Core.List.{_++_};
-ghost use lib.ListN.{length, drop};
+ghost use lib.ListN.{length, take, drop};
+ghost use Rattle.std.specs.Vec.{made};
 ghost use Rattle.model.specs.Faults.{answer, left};
 ghost use Rattle.model.specs.Explaining.{room-fault, told, listed};
-ghost use Rattle.model.specs.Explaining.{why-answer, rows-after, steps-after};
+ghost use Rattle.model.specs.Explaining.{why-answer, rows-after, steps-after, Unfolds};
 ghost use Rattle.explain.specs.Walking.{Timely};
 use engine::grade;
 use model::fault::Cause;
@@ -75,6 +76,7 @@ fn tell<G: Copy, H: Heap>(
 // Grades the cells of `heap` under `scheme` and explains why `cell` survives: its grade, and the
 // records that hold it up, which become the first steps of the list. They are the holders of the
 // cell and, repeatedly, of the sources of these holders, in order of turn, one for each cell.
+// So the steps unfold into a derivation of the cell with that grade.
 // Refused are, in this order, too few rows, a number that is no cell's, a cell that is not
 // settled, and a list too short; the first two leave the rows alone, and all four the list.
 pub fn why<S: Scheme, H: Heap>(
@@ -96,6 +98,11 @@ pub fn why<S: Scheme, H: Heap>(
         let s = S·Scheme .model (now (scheme .entry)) in
         let h = H·Heap .meaning (now (heap .entry)) in
         ⌜ now (steps .exit) ≡ steps-after s h cell (now (rows .entry)) (now (steps .entry)) ⌝ }
+    ensures unfolds { λ r.
+        let s = S·Scheme .model (now (scheme .entry)) in
+        let h = H·Heap .meaning (now (heap .entry)) in
+        let graded = take 1024 (now (rows .exit)) in
+        ⌜ made r (λ w. Unfolds s h graded (take (w .count) (now (steps .exit))) cell (w .grade)) ⌝ }
 {
     if rows.len() < CELLS as usize {
         return Err(Fault {

@@ -3,7 +3,7 @@ use mathlib.Core.Path.{_≡_, sym}
 use native.Mathlib.Omega.{arith}
 use lib.ListN.{length}
 use Rattle.explain.proofs.Tells.{cell-refused, never-short, front-wide, front-timely}
-use Rattle.explain.proofs.Tells.{answers, fills, lists, refused, rows-stand, steps-stand}
+use Rattle.explain.proofs.Tells.{answers, fills, lists, unfolds, refused, rows-stand, steps-stand}
 use Rattle.explain.proofs.why.Needs as need
 
 pub returns-then-cell : need.returns-then-cell
@@ -18,6 +18,7 @@ returns-then-cell g c =
       answers = refused s h n lent steps _ early;
       fills = rows-stand s h n lent steps _ early;
       lists = steps-stand s h n lent steps _ early;
+      unfolds = tt;
     }
 
 pub returns-in-Break-grade : need.returns-in-Break-grade
@@ -64,4 +65,6 @@ returns g c =
       answers = answers s law h wf lent after enough is n small steps (c .tell .result) (c .tell .ensures .answers);
       fills = fills s law h wf lent after enough is n small steps;
       lists = lists s law h wf lent after enough is n small steps (c .tell .last .steps) (c .tell .ensures .lists);
+      unfolds = unfolds s law h wf lent after enough is n small steps (c .tell .last .steps) (c .tell .result)
+          (c .tell .ensures .answers) (c .tell .ensures .lists);
     }

@@ -1,9 +1,10 @@
 use Prim.Native.Nat.{_-_}
-use mathlib.Core.Path.{refl, sym, _∙_}
+use mathlib.Core.Path.{_∙_}
 use mathlib.Core.Bool.{true, false}
 use native.Mathlib.Omega.{arith}
 use lib.ListN.{drop, replicate}
 use Rattle.std.proofs.shelf.Lists.{length-set, length-replicate}
+use Rattle.model.specs.Explaining.{steps-of}
 use Rattle.explain.proofs.Walks.{walk-more, walk-end, walk-first}
 use Rattle.explain.proofs.walk.walk.Needs as need
 
@@ -38,10 +39,10 @@ loop-left-again g c =
 pub returns : need.returns
 returns g c =
     let h = g .H·Heap .meaning (c .args .heap .now) in
+    let rows = c .args .rows .now in
     let at = c .loop-left in
     record {
-      steps =
-          sym (walk-end h (c .args .rows .now) (c .by-turn-order .result) (at .left) (at .marks)
-          (drop (at .first) (at .found)) (omega arith)) ∙ at .inv .3;
+      steps = walk-end h rows (c .by-turn-order .result) (at .left) (at .marks) (drop (at .first) (at .found))
+          (steps-of h rows (c .args .cell) (c .args .turn)) (omega arith) (at .inv .3);
       within = at .inv .2;
     }
