@@ -4,3 +4,4 @@ pub mod Obeying
 pub mod Refusals
 pub mod Results
 pub mod RowTexts
+pub mod StepTexts

@@ -11,7 +11,7 @@ use Rattle.model.specs.Faults.{answer}
 use Rattle.model.specs.Meaning.{Meaning}
 use Rattle.text.specs.declared.refusal.Refusal.{Refusal}
 use Rattle.text.specs.declared.command.Command.{Command}
-use Rattle.text.specs.declared.command.Command.the-variants.{Put, Root, Link, Tie, Erase, Grade}
+use Rattle.text.specs.declared.command.Command.the-variants.{Put, Root, Link, Tie, Erase, Grade, Why}
 use Rattle.text.specs.Words.{Reading}
 use Rattle.text.specs.Commands.{words-in, command-in}
 use Rattle.script.specs.Lines.{fault-of, after-command, after-if, placed, obeyed, heap-after, outcome-text}
@@ -25,6 +25,7 @@ fault-leaves h (Link number source target strength) f e = rw e
 fault-leaves h (Tie number table key value) f e = rw e
 fault-leaves h (Erase number) f e = rw e
 fault-leaves h (Grade scheme) f e = refl
+fault-leaves h (Why scheme cell) f e = refl
 
 -- the line's words make the command c, and p is what the heap answers to it
 module _ (h : Meaning) (line : List ℕ) (w : Reading) (c : Command)
@@ -69,6 +70,7 @@ outcome-same h (Ok (Link number source target strength)) = refl
 outcome-same h (Ok (Tie number table key value)) = refl
 outcome-same h (Ok (Erase number)) = refl
 outcome-same h (Ok (Grade scheme)) = refl
+outcome-same h (Ok (Why scheme cell)) = refl
 outcome-same h (Err r) = refl
 
 -- so what is printed of the heap after the line is the answer to it

@@ -1,6 +1,7 @@
 -- Answers: the bytes that are printed for a line.
 use Prim.Native.Nat.{ℕ, _+_}
 use mathlib.Core.List.{List, [], _∷_, _++_}
+use lib.ListN.{take}
 use lib.Chars.{codes}
 use Rattle.std.specs.Written.{decimal}
 use Rattle.std.specs.declared.option.Option.{Option}
@@ -8,6 +9,7 @@ use Rattle.std.specs.declared.option.Option.the-variants.{Some, None}
 use Rattle.model.specs.declared.record.Strength.{Strength}
 use Rattle.model.specs.declared.row.Row.{Row}
 use Rattle.model.specs.declared.row.Counts.{Counts}
+use Rattle.model.specs.declared.row.Why.{Why}
 use Rattle.model.specs.Faults.{number-of, layer-of, letter-of}
 use Rattle.model.specs.Settling.{Rows}
 use Rattle.schemes.specs.declared.depth.Depth.{Depth}
@@ -49,3 +51,16 @@ rows-text show c (x ∷ xs) = row-text-if show c x ++ rows-text show (c + 1) xs
 abbrev pub graded-text : {G : Type 0} → (G → List ℕ) → Counts → Rows G → List ℕ
 graded-text show k rows =
     codes "ok " ++ decimal (k .settled) ++ codes " " ++ decimal (k .weighed) ++ rows-text show 0 rows
+
+-- the steps, each behind a space
+abbrev pub step-text : ℕ → List ℕ
+step-text r = codes " " ++ decimal r
+
+unfoldable pub steps-text : List ℕ → List ℕ
+steps-text [] = []
+steps-text (r ∷ rs) = step-text r ++ steps-text rs
+
+-- ok, the grade, the count, the steps
+abbrev pub explained-text : {G : Type 0} → (G → List ℕ) → Why G → List ℕ → List ℕ
+explained-text show k steps =
+    codes "ok " ++ show (k .grade) ++ codes " " ++ decimal (k .count) ++ steps-text (take (k .count) steps)

@@ -2,6 +2,7 @@
 use Prim.Native.Nat.{ℕ}
 use mathlib.Core.List.{List, [], _∷_, _++_}
 use lib.Chars.{codes}
+use lib.ListN.{replicate}
 use Rattle.std.specs.declared.option.Option.{Option}
 use Rattle.std.specs.declared.option.Option.the-variants.{Some, None}
 use Rattle.std.specs.declared.result.Result.{Result}
@@ -12,6 +13,9 @@ use Rattle.model.specs.Meaning.{Meaning}
 use Rattle.model.specs.Schemes.{Scheme}
 use Rattle.model.specs.Settling.{Rows, graded, weighed}
 use Rattle.model.specs.Grading.{rows-fault}
+use Rattle.model.specs.Explaining.{why-answer, steps-after}
+use Rattle.model.specs.declared.row.Why.{Why as Explanation}
+use Rattle.std.specs.Results.{errPart}
 use Rattle.model.specs.Calls.{put-fault, root-fault, link-fault, tie-fault, erase-fault}
 use Rattle.model.specs.Calls.{put-after, root-after, link-after, tie-after, erase-after}
 use Rattle.schemes.specs.Strength.{by-strength}
@@ -19,14 +23,30 @@ use Rattle.schemes.specs.Bytes.{by-bytes}
 use Rattle.schemes.specs.Depth.{by-depth}
 use Rattle.text.specs.declared.refusal.Refusal.{Refusal}
 use Rattle.text.specs.declared.command.Command.{Command}
-use Rattle.text.specs.declared.command.Command.the-variants.{Put, Root, Link, Tie, Erase, Grade}
+use Rattle.text.specs.declared.command.Command.the-variants.{Put, Root, Link, Tie, Erase, Grade, Why}
 use Rattle.text.specs.declared.command.SchemeName.{SchemeName}
 use Rattle.text.specs.declared.command.SchemeName.the-variants.{Strength, Bytes, Depth}
 use Rattle.text.specs.Words.{Reading, byte-of}
 use Rattle.text.specs.Commands.{words-in, command-in, then}
-use Rattle.script.specs.Answers.{refusal-text, graded-text, strength-text, bytes-text, depth-text}
+use Rattle.script.specs.Answers.{refusal-text, graded-text, explained-text, strength-text, bytes-text, depth-text}
 
--- the fault of a command, if the heap finds one; a grading has memory enough
+-- gradings and explanations are handed memory enough: 1,024 rows and 1,024 steps
+abbrev pub fresh-rows : {G : Type 0} → Rows G
+fresh-rows = replicate 1024 None
+
+abbrev pub fresh-steps : List ℕ
+fresh-steps = replicate 1024 0
+
+abbrev pub why-under : {G : Type 0} → Scheme G → Meaning → ℕ → Result (Explanation G) Fault
+why-under s h c = why-answer s h c fresh-rows fresh-steps
+
+-- the fault of asking why, if there is one
+abbrev pub why-fault-under : SchemeName → Meaning → ℕ → Option Fault
+why-fault-under Strength h c = errPart (why-under by-strength h c)
+why-fault-under Bytes h c = errPart (why-under by-bytes h c)
+why-fault-under Depth h c = errPart (why-under by-depth h c)
+
+-- the fault of a command, if the heap finds one
 abbrev pub fault-of : Meaning → Command → Option Fault
 fault-of h (Put cell size) = put-fault h cell size
 fault-of h (Root number target) = root-fault h number target
@@ -34,6 +54,7 @@ fault-of h (Link number source target strength) = link-fault h number source tar
 fault-of h (Tie number table key value) = tie-fault h number table key value
 fault-of h (Erase number) = erase-fault h number
 fault-of h (Grade scheme) = None
+fault-of h (Why scheme cell) = why-fault-under scheme h cell
 
 -- the heap after a command
 abbrev pub after-command : Meaning → Command → Meaning
@@ -43,6 +64,7 @@ after-command h (Link number source target strength) = link-after h number sourc
 after-command h (Tie number table key value) = tie-after h number table key value
 after-command h (Erase number) = erase-after h number
 after-command h (Grade scheme) = h
+after-command h (Why scheme cell) = h
 
 -- the heap's fault whole, with the byte where its argument's word begins
 abbrev pub placed : {A : Type 0} → Reading → Result A Fault → Result A Refusal
@@ -80,7 +102,20 @@ scheme-text Strength h = grades-text strength-text by-strength h
 scheme-text Bytes h = grades-text bytes-text by-bytes h
 scheme-text Depth h = grades-text depth-text by-depth h
 
--- an edit answers ok, a grading its counts and cells, a refusal its fault
+-- the explanation of a cell, or the refusal of one
+abbrev pub told-text : {G : Type 0} → (G → List ℕ) → Result (Explanation G) Fault → List ℕ → List ℕ
+told-text show (Ok k) steps = explained-text show k steps
+told-text show (Err f) steps = refusal-text (record { fault = f; byte = 0 })
+
+abbrev pub why-text : {G : Type 0} → (G → List ℕ) → Scheme G → Meaning → ℕ → Rows G → List ℕ → List ℕ
+why-text show s h c rows steps = told-text show (why-answer s h c rows steps) (steps-after s h c rows steps)
+
+abbrev pub scheme-why-text : SchemeName → Meaning → ℕ → List ℕ
+scheme-why-text Strength h c = why-text strength-text by-strength h c fresh-rows fresh-steps
+scheme-why-text Bytes h c = why-text bytes-text by-bytes h c fresh-rows fresh-steps
+scheme-why-text Depth h c = why-text depth-text by-depth h c fresh-rows fresh-steps
+
+-- an edit answers ok, a grading its counts and cells, an explanation its steps, a refusal its fault
 abbrev pub outcome-text : Meaning → Result Command Refusal → List ℕ
 outcome-text h (Ok (Put cell size)) = codes "ok"
 outcome-text h (Ok (Root number target)) = codes "ok"
@@ -88,6 +123,7 @@ outcome-text h (Ok (Link number source target strength)) = codes "ok"
 outcome-text h (Ok (Tie number table key value)) = codes "ok"
 outcome-text h (Ok (Erase number)) = codes "ok"
 outcome-text h (Ok (Grade scheme)) = scheme-text scheme h
+outcome-text h (Ok (Why scheme cell)) = scheme-why-text scheme h cell
 outcome-text h (Err r) = refusal-text r
 
 -- the answer to a line, ended by byte 10

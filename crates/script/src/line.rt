@@ -8,6 +8,10 @@ ghost use Rattle.text.specs.Tokens.{reading-of};
 ghost use Rattle.text.specs.Writing.{Writes};
 ghost use Rattle.script.specs.Lines.{fault-of, after-command, placed, obeyed, heap-after};
 ghost use Rattle.script.specs.Lines.{grading-text, scheme-text, outcome-text, answer-line};
+ghost use Rattle.script.specs.Lines.{why-fault-under, why-text, scheme-why-text};
+ghost use Rattle.model.specs.Explaining.{why-answer};
+ghost use Rattle.std.specs.Results.{errPart};
+use crate::print::print_explained;
 use crate::print::print_graded;
 use crate::print::print_refusal;
 use crate::show::BytesShown;
@@ -15,6 +19,7 @@ use crate::show::DepthShown;
 use crate::show::Shown;
 use crate::show::StrengthShown;
 use engine::grade;
+use explain::why;
 use live::live::LiveHeap;
 use live::live::answers::LiveHeapAnswers;
 use model::fault::Fault;
@@ -36,6 +41,35 @@ use text::write::write_byte;
 use text::write::write_text;
 
 const CELLS: usize = 1024;
+
+// Whether there is an explanation of the cell to print.
+fn judge<S: Scheme, H: Heap>(
+    scheme: &S,
+    heap: &H,
+    cell: u32,
+    rows: &mut [Option<Row<S::Grade>>],
+    steps: &mut [u16],
+) -> Result<(), Fault>
+    ensures { λ r.
+        let s = S·Scheme .model (now (scheme .entry)) in
+        let h = H·Heap .meaning (now (heap .entry)) in
+        ⌜ r ≡ answered (errPart (why-answer s h cell (now (rows .entry)) (now (steps .entry)))) tt ⌝ }
+{
+    match why(scheme, heap, cell, rows, steps) {
+        Ok(_) => Ok(()),
+        Err(fault) => Err(fault),
+    }
+}
+
+fn judge_why(heap: &LiveHeap, scheme: SchemeName, cell: u32) -> Result<(), Fault>
+    ensures { λ r. ⌜ r ≡ answered (why-fault-under scheme (meaning-of (now (heap .entry))) cell) tt ⌝ }
+{
+    match scheme {
+        SchemeName::Strength => judge(&ByStrength, heap, cell, &mut [None; CELLS], &mut [0; CELLS]),
+        SchemeName::Bytes => judge(&ByBytes, heap, cell, &mut [None; CELLS], &mut [0; CELLS]),
+        SchemeName::Depth => judge(&ByDepth, heap, cell, &mut [None; CELLS], &mut [0; CELLS]),
+    }
+}
 
 // Does what a command asks of the heap.
 fn perform(heap: &mut LiveHeap, command: Command) -> Result<(), Fault>
@@ -61,6 +95,7 @@ fn perform(heap: &mut LiveHeap, command: Command) -> Result<(), Fault>
         } => heap.tie(number, table, key, value),
         Command::Erase { number } => heap.erase(number),
         Command::Grade { .. } => Ok(()),
+        Command::Why { scheme, cell } => judge_why(heap, scheme, cell),
     }
 }
 
@@ -136,6 +171,47 @@ pub fn print_scheme<H: Heap>(
     }
 }
 
+// Explains a cell into lent rows and steps, and prints the explanation.
+pub fn print_why<S: Scheme, H: Heap>(
+    out: &mut Vec<u8>,
+    scheme: &S,
+    heap: &H,
+    cell: u32,
+    rows: &mut [Option<Row<S::Grade>>],
+    steps: &mut [u16],
+) -> Result<(), AllocError>
+where
+    S::Grade: Shown,
+    ensures { λ r.
+        let s = S·Scheme .model (now (scheme .entry)) in
+        let h = H·Heap .meaning (now (heap .entry)) in
+        let text = why-text (Grade·Shown .text) s h cell (now (rows .entry)) (now (steps .entry)) in
+        ⌜ Writes r (now (out .entry)) text (now (out .exit)) ⌝ }
+{
+    match why(scheme, heap, cell, rows, steps) {
+        Ok(found) => print_explained(out, found, steps),
+        Err(fault) => print_refusal(out, Refusal { fault, byte: 0 }),
+    }
+}
+
+// Explains a cell under the scheme that is named, and prints the explanation.
+pub fn print_scheme_why<H: Heap>(
+    out: &mut Vec<u8>,
+    heap: &H,
+    scheme: SchemeName,
+    cell: u32,
+) -> Result<(), AllocError>
+    ensures { λ r.
+        let text = scheme-why-text scheme (H·Heap .meaning (now (heap .entry))) cell in
+        ⌜ Writes r (now (out .entry)) text (now (out .exit)) ⌝ }
+{
+    match scheme {
+        SchemeName::Strength => print_why(out, &ByStrength, heap, cell, &mut [None; CELLS], &mut [0; CELLS]),
+        SchemeName::Bytes => print_why(out, &ByBytes, heap, cell, &mut [None; CELLS], &mut [0; CELLS]),
+        SchemeName::Depth => print_why(out, &ByDepth, heap, cell, &mut [None; CELLS], &mut [0; CELLS]),
+    }
+}
+
 // Prints what came of a line. Grading changes nothing, so it is done here.
 fn print_outcome(
     out: &mut Vec<u8>,
@@ -148,6 +224,7 @@ fn print_outcome(
 {
     match outcome {
         Ok(Command::Grade { scheme }) => print_scheme(out, heap, scheme),
+        Ok(Command::Why { scheme, cell }) => print_scheme_why(out, heap, scheme, cell),
         Ok(_) => write_text(out, b"ok"),
         Err(refusal) => print_refusal(out, refusal),
     }

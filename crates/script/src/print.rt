@@ -1,9 +1,14 @@
 // The answers as they are printed, without the byte that ends the line.
+ghost use Prim.Native.Nat.{ℕ};
+ghost use mathlib.Core.Path.{_≡_};
+ghost use lib.ListN.{take};
 ghost use Rattle.text.specs.Writing.{Writes};
 ghost use Rattle.script.specs.Answers.{refusal-text, row-text-if, rows-text, graded-text};
+ghost use Rattle.script.specs.Answers.{step-text, steps-text, explained-text};
 use crate::show::Shown;
 use model::row::Counts;
 use model::row::Row;
+use model::row::Why;
 use std::alloc::AllocError;
 use text::refusal::Refusal;
 use text::write::write_byte;
@@ -68,5 +73,47 @@ pub fn print_graded<G: Shown>(
     write_byte(out, b' ')?;
     write_number(out, counts.weighed as u64)?;
     print_rows(out, rows)?;
+    Ok(())
+}
+
+fn print_step(out: &mut Vec<u8>, step: u16) -> Result<(), AllocError>
+    ensures { λ r. ⌜ Writes r (now (out .entry)) (step-text step) (now (out .exit)) ⌝ }
+{
+    write_byte(out, b' ')?;
+    write_number(out, step as u64)?;
+    Ok(())
+}
+
+fn print_steps(out: &mut Vec<u8>, steps: &[u16]) -> Result<(), AllocError>
+    ensures { λ r. ⌜ Writes r (now (out .entry)) (steps-text (now (steps .entry))) (now (out .exit)) ⌝ }
+{
+    for step in steps {
+        print_step(out, *step)?;
+    }
+    Ok(())
+}
+
+// The first `count` steps of a list, or all where there are fewer.
+fn first_steps(steps: &[u16], count: usize) -> &[u16]
+    ensures { λ r. ⌜ now r ≡ take count (now (steps .entry)) ⌝ }
+{
+    if count < steps.len() {
+        &steps[0..count]
+    } else {
+        steps
+    }
+}
+
+// Why a cell survives: its grade, the count of the steps, and the steps.
+pub fn print_explained<G: Shown>(out: &mut Vec<u8>, why: Why<G>, steps: &[u16]) -> Result<(), AllocError>
+    ensures { λ r.
+        let text = explained-text (G·Shown .text) why (now (steps .entry)) in
+        ⌜ Writes r (now (out .entry)) text (now (out .exit)) ⌝ }
+{
+    write_text(out, b"ok ")?;
+    why.grade.write(out)?;
+    write_byte(out, b' ')?;
+    write_number(out, why.count as u64)?;
+    print_steps(out, first_steps(steps, why.count as usize))?;
     Ok(())
 }
