@@ -10,4 +10,3 @@ pub mod Halves
 pub mod Alike
 pub mod Owned
 pub mod Alone
-pub mod Examples
