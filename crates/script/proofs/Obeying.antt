@@ -63,7 +63,8 @@ module _ (h : Meaning) (line : List ℕ) (w : Reading) (c : Command)
           (ap {B = Result Command Refusal} Err same ∙ refused, left)
 
 -- a command that prints more than ok changes nothing
-outcome-same : (h : Meaning) (r : Result Command Refusal) → outcome-text (after-if h r) r ≡ outcome-text h r
+outcome-same : (h : Meaning) (r : Result Command Refusal) → outcome-text
+    (after-if h r) r ≡ outcome-text h r
 outcome-same h (Ok (Put cell size)) = refl
 outcome-same h (Ok (Root number target)) = refl
 outcome-same h (Ok (Link number source target strength)) = refl

@@ -37,12 +37,14 @@ module _ (xs : List ℕ) (i : ℕ) (l : i < length xs) where
   next = rw (add-one i) (more xs i l)
 
   -- step i behind the steps before it
-  pub step-more : {a b c : Vec ℕ Global} → Wrote a (steps-text (take i xs)) b → Wrote b (step-text (getD xs i 0)) c →
+  pub step-more : {a b c : Vec ℕ Global} → Wrote a (steps-text (take i xs)) b → Wrote b (step-text
+      (getD xs i 0)) c →
       Wrote a (steps-text (take (i + 1) xs)) c
   step-more v w = as-text next (and-then v w)
 
   -- no room for step i is no room for all the steps
-  pub step-full : {a b : Vec ℕ Global} → Wrote a (steps-text (take i xs)) b → Full b (step-text (getD xs i 0)) →
+  pub step-full : {a b : Vec ℕ Global} → Wrote a (steps-text (take i xs)) b → Full b (step-text
+      (getD xs i 0)) →
       Full a (steps-text xs)
   step-full v f =
       full-as (sym (split xs (i + 1)))

@@ -102,10 +102,10 @@ scheme-text Strength h = grades-text strength-text by-strength h
 scheme-text Bytes h = grades-text bytes-text by-bytes h
 scheme-text Depth h = grades-text depth-text by-depth h
 
--- the explanation of a cell, or the refusal of one
+-- the explanation of a cell, or its refusal, at byte 4, where the cell's word of a line begins
 abbrev pub told-text : {G : Type 0} → (G → List ℕ) → Result (Explanation G) Fault → List ℕ → List ℕ
 told-text show (Ok k) steps = explained-text show k steps
-told-text show (Err f) steps = refusal-text (record { fault = f; byte = 0 })
+told-text show (Err f) steps = refusal-text (record { fault = f; byte = 4 })
 
 abbrev pub why-text : {G : Type 0} → (G → List ℕ) → Scheme G → Meaning → ℕ → Rows G → List ℕ → List ℕ
 why-text show s h c rows steps = told-text show (why-answer s h c rows steps) (steps-after s h c rows steps)

@@ -190,7 +190,7 @@ where
 {
     match why(scheme, heap, cell, rows, steps) {
         Ok(found) => print_explained(out, found, steps),
-        Err(fault) => print_refusal(out, Refusal { fault, byte: 0 }),
+        Err(fault) => print_refusal(out, Refusal { fault, byte: 4 }),
     }
 }
 
@@ -206,9 +206,30 @@ pub fn print_scheme_why<H: Heap>(
         ⌜ Writes r (now (out .entry)) text (now (out .exit)) ⌝ }
 {
     match scheme {
-        SchemeName::Strength => print_why(out, &ByStrength, heap, cell, &mut [None; CELLS], &mut [0; CELLS]),
-        SchemeName::Bytes => print_why(out, &ByBytes, heap, cell, &mut [None; CELLS], &mut [0; CELLS]),
-        SchemeName::Depth => print_why(out, &ByDepth, heap, cell, &mut [None; CELLS], &mut [0; CELLS]),
+        SchemeName::Strength => print_why(
+            out,
+            &ByStrength,
+            heap,
+            cell,
+            &mut [None; CELLS],
+            &mut [0; CELLS],
+        ),
+        SchemeName::Bytes => print_why(
+            out,
+            &ByBytes,
+            heap,
+            cell,
+            &mut [None; CELLS],
+            &mut [0; CELLS],
+        ),
+        SchemeName::Depth => print_why(
+            out,
+            &ByDepth,
+            heap,
+            cell,
+            &mut [None; CELLS],
+            &mut [0; CELLS],
+        ),
     }
 }
 

@@ -105,7 +105,11 @@ fn first_steps(steps: &[u16], count: usize) -> &[u16]
 }
 
 // Why a cell survives: its grade, the count of the steps, and the steps.
-pub fn print_explained<G: Shown>(out: &mut Vec<u8>, why: Why<G>, steps: &[u16]) -> Result<(), AllocError>
+pub fn print_explained<G: Shown>(
+    out: &mut Vec<u8>,
+    why: Why<G>,
+    steps: &[u16],
+) -> Result<(), AllocError>
     ensures { λ r.
         let text = explained-text (G·Shown .text) why (now (steps .entry)) in
         ⌜ Writes r (now (out .entry)) text (now (out .exit)) ⌝ }

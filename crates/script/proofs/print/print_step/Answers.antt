@@ -9,7 +9,8 @@ returns-in-Break-write-byte c =
 
 pub returns-in-Break-write-number : need.returns-in-Break-write-number
 returns-in-Break-write-number c =
-    failed (c .from-residual-in-Break-write-number .result) _ (c .from-residual-in-Break-write-number .ensures .0)
+    failed (c .from-residual-in-Break-write-number .result) _
+    (c .from-residual-in-Break-write-number .ensures .0)
     (full-then (c .in-Continue-write-byte .ensures tt) (c .in-Break-write-number .ensures tt))
 
 pub returns : need.returns

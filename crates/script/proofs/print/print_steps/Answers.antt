@@ -17,4 +17,5 @@ loop-step-again c =
     (c .loop-step .inv) (c .in-Continue-print-step .ensures tt)
 
 pub returns : need.returns
-returns c = steps-all (c .args .steps .now) (c .loop-step .step-index) (c .loop-step-test .left) (c .loop-step .inv)
+returns c = steps-all (c .args .steps .now) (c .loop-step .step-index) (c .loop-step-test .left)
+    (c .loop-step .inv)
