@@ -23,18 +23,21 @@ use Rattle.model.specs.Schemes.{Scheme, Lawful}
 use Rattle.model.specs.Meaning.{Meaning, Well-formed}
 use Rattle.model.specs.Settling.{Rows, State, filled, best, settle-by, step, settle, graded}
 use Rattle.model.specs.Grading.{rows-fault, grade-answer, grade-after, Numbered, All-backed}
-use Rattle.model.specs.Explaining.{steps-of, room-fault, told, listed, why-fault, why-answer, rows-after, steps-after, Unfolds}
+use Rattle.model.specs.Explaining.{steps-of, room-fault, told, listed, why-fault}
+use Rattle.model.specs.Explaining.{why-answer, rows-after, steps-after, Unfolds}
 use Rattle.model.proofs.Steps.{fresh, graded-done}
 use Rattle.model.proofs.Turns.{graded-ordered}
 use Rattle.explain.specs.Walking.{Timely}
 use Rattle.explain.proofs.Unfolding.{told-unfolds}
 
 -- a fault is handed on, and a count becomes part of the answer
-err-on : {A B : Type 0} (f : Option Fault) (x : Fault) (a : A) (b : B) → Err x ≡ answer f a → Err x ≡ answer f b
+err-on : {A B : Type 0} (f : Option Fault) (x : Fault) (a : A) (b : B) → Err x ≡ answer f a
+    → Err x ≡ answer f b
 err-on None x a b e = let z : _≡_ {A = ℕ} 0 1 = cc in absurd (omega arith)
 err-on (Some y) x a b e = let z : x ≡ y = cc in ap Err z
 
-ok-on : {A B : Type 0} (f : Option Fault) (x a : A) (k : A → B) → Ok x ≡ answer f a → Ok (k x) ≡ answer f (k a)
+ok-on : {A B : Type 0} (f : Option Fault) (x a : A) (k : A → B) → Ok x ≡ answer f a
+    → Ok (k x) ≡ answer f (k a)
 ok-on None x a k e = let z : x ≡ a = cc in ap (λ (y : _). Ok (k y)) z
 ok-on (Some y) x a k e = let z : _≡_ {A = ℕ} 0 1 = cc in absurd (omega arith)
 
@@ -95,7 +98,8 @@ module _ {G : Type 0} (s : Scheme G) (h : Meaning) where
   one-turn st None = omega arith
   one-turn st (Some o) = omega arith
 
-  turns-within : (ps : List (ℕ × Record)) (fuel : ℕ) (st : State G) → settle s h ps fuel st .turn ≤ fuel + st .turn
+  turns-within : (ps : List (ℕ × Record)) (fuel : ℕ) (st : State G)
+      → settle s h ps fuel st .turn ≤ fuel + st .turn
   unfolding settle
   turns-within ps zero st = omega arith
   turns-within ps (suc fuel) st =
@@ -107,9 +111,11 @@ module _ {G : Type 0} (s : Scheme G) (h : Meaning) where
 
 module _ {G : Type 0} (s : Scheme G) (law : Lawful s) (h : Meaning) (wf : Well-formed h) where
   pub graded-timely : Timely (graded s h .rows)
-  graded-timely c row e = omega (arith, graded-ordered s law h wf .numbered .below c row e, graded-within s h)
+  graded-timely c row e =
+      omega (arith, graded-ordered s law h wf .numbered .below c row e, graded-within s h)
 
-  module _ (lent after : Rows G) (enough : 1024 ≤ length lent) (is-after : after ≡ grade-after s h lent) where
+  module _ (lent after : Rows G) (enough : 1024 ≤ length lent)
+      (is-after : after ≡ grade-after s h lent) where
     -- the rows that `why` reads are those of the rule
     pub front-graded : take 1024 after ≡ graded s h .rows
     front-graded =

@@ -11,7 +11,8 @@ use Rattle.std.specs.Vec.{made}
 use Rattle.std.specs.declared.option.Option.{Option}
 use Rattle.std.specs.declared.option.Option.the-variants.{Some, None}
 use Rattle.std.specs.declared.result.Result.{Result}
-use Rattle.std.proofs.shelf.Lists.{getD-set-same, getD-set-other, getD-past, take-at, length-set, length-replicate}
+use Rattle.std.proofs.shelf.Lists.{getD-set-same, getD-set-other, getD-past, take-at}
+use Rattle.std.proofs.shelf.Lists.{length-set, length-replicate}
 use Rattle.std.proofs.shelf.Tests.{cases-eq, cases-lt, both-ways}
 use Rattle.model.specs.declared.fault.Fault.{Fault}
 use Rattle.model.specs.declared.record.Record.{Record}
@@ -24,7 +25,8 @@ use Rattle.model.specs.Meaning.{Meaning, cell-at, record-at}
 use Rattle.model.specs.Derivations.{by-root, by-link, by-ephemeron}
 use Rattle.model.specs.Settling.{Rows, target, given}
 use Rattle.model.specs.Grading.{Settled, Settled-before, Sources-before, Numbered, Backed, All-backed}
-use Rattle.model.specs.Explaining.{sources, sources-of, holder-of, marked, placed, in-order, cells-by-turn, explain, steps-of}
+use Rattle.model.specs.Explaining.{sources, sources-of, holder-of, marked, placed, in-order}
+use Rattle.model.specs.Explaining.{cells-by-turn, explain, steps-of}
 use Rattle.model.specs.Explaining.{room-fault, told-by, told, listed-by, listed, Among, Step, Unfolds}
 use Rattle.model.proofs.Filled.{none-some, some-same}
 use Rattle.explain.specs.Walking.{Timely}
@@ -69,7 +71,8 @@ module _ {G : Type 0} where
       ∙ omega arith
 
 -- marks stay, and those of the listed cells are raised
-set-keeps : (marks : List Bool) (a i : ℕ) → getD marks i false ≡ true → getD (set marks a true) i false ≡ true
+set-keeps : (marks : List Bool) (a i : ℕ) → getD marks i false ≡ true
+    → getD (set marks a true) i false ≡ true
 set-keeps [] a i e = e
 set-keeps (x ∷ xs) zero zero e = refl
 set-keeps (x ∷ xs) zero (suc i) e = e
@@ -191,7 +194,8 @@ module _ {G : Type 0} (s : Scheme G) (h : Meaning) (rows : Rows G) (steps : List
 
       by-turn : (a r : ℕ) → a ≡ getD order t 0 → r ≡ holder-of (getD rows a None)
           → (b : Bool) → getD marks a false ≡ b
-          → All-steps (cond b (explain h rows order t (marked (sources-of (record-at h r)) marks) ++ (r ∷ []))
+          → All-steps (cond b
+          (explain h rows order t (marked (sources-of (record-at h r)) marks) ++ (r ∷ []))
           (explain h rows order t marks))
           → (c : ℕ) (row : Row G) → Settled rows c row → row .turn < suc t → getD marks c false ≡ true
           → Unfolds s h rows steps c (row .grade)
@@ -249,7 +253,8 @@ module _ {G : Type 0} (s : Scheme G) (h : Meaning) (rows : Rows G) (count : ℕ)
         go : (f : Option Fault) → r ≡ answer f (record { grade = row .grade; count = length path })
             → after ≡ left f (path ++ drop (length path) steps) steps → By-answer r
         go None p q =
-            let front = ap (take (length path)) q ∙ take-at path (drop (length path) steps) (length path) refl in
+            let rest = drop (length path) steps in
+            let front = ap (take (length path)) q ∙ take-at path rest (length path) refl in
             subst By-answer (sym p)
             (subst (λ (z : List ℕ). Unfolds s h rows z c (row .grade)) (sym front) (steps-unfold row e))
         go (Some f) p q = subst By-answer (sym p) tt

@@ -21,7 +21,8 @@ use Rattle.explain.specs.Walking.{Cells, holder-at, marks-next, steps-next}
 -- noting the cells at their turns
 module _ {G : Type 0} (rows : Rows G) (order : List ℕ) (c : ℕ) where
   pub order-more : c < length rows
-      → in-order c (drop c rows) order ≡ in-order (c + 1) (drop (c + 1) rows) (placed c (getD rows c None) order)
+      → in-order c (drop c rows) order
+      ≡ in-order (c + 1) (drop (c + 1) rows) (placed c (getD rows c None) order)
   unfolding in-order
   order-more l = at-drop-more (λ z. in-order c z order) rows c None l
 
@@ -120,6 +121,7 @@ pub walk-first : {G : Type 0} (h : Meaning) (rows : Rows G) (order found : List 
     → explain h rows order (t + 1) (set (replicate 1024 false) c true) ++ drop n found ≡ steps-of h rows c t
 unfolding steps-of
 walk-first h rows order found c t n e l =
-    ap (λ (z : List ℕ). explain h rows order (t + 1) (set (replicate 1024 false) c true) ++ z) (drop-all n found l)
+    let marks = set (replicate 1024 false) c true in
+    ap (λ (z : List ℕ). explain h rows order (t + 1) marks ++ z) (drop-all n found l)
     ∙ append-nil _
-    ∙ ap (λ (z : List ℕ). explain h rows z (t + 1) (set (replicate 1024 false) c true)) e
+    ∙ ap (λ (z : List ℕ). explain h rows z (t + 1) marks) e

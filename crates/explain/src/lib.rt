@@ -25,7 +25,8 @@ mod walk;
 fn hand_over(found: &[u16], steps: &mut [u16]) -> Result<u32, Fault>
     requires { ⌜ length (now found) ≤ 1024 ⌝ }
     ensures answers { λ r.
-        ⌜ r ≡ answer (room-fault (now (found .entry)) (now (steps .entry))) (length (now (found .entry))) ⌝ }
+        let path = now (found .entry) in
+        ⌜ r ≡ answer (room-fault path (now (steps .entry))) (length path) ⌝ }
     ensures lists { λ _.
         let path = now (found .entry) in
         let old = now (steps .entry) in

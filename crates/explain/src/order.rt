@@ -21,7 +21,9 @@ pub(crate) fn fetch<G: Copy>(rows: &[Option<Row<G>>], cell: u16) -> Option<Row<G
 fn place<G: Copy>(rows: &[Option<Row<G>>], cell: u16, order: &mut [u16])
     requires { ⌜ length (now rows) ≡ 1024 ⌝ ∗ ⌜ Timely (now rows) ⌝ }
     requires { ⌜ cell < 1024 ⌝ ∗ ⌜ length (now order) ≡ 1024 ⌝ }
-    ensures { λ _. ⌜ now (order .exit) ≡ placed cell (getD (now (rows .entry)) cell None) (now (order .entry)) ⌝ }
+    ensures { λ _.
+        let row = getD (now (rows .entry)) cell None in
+        ⌜ now (order .exit) ≡ placed cell row (now (order .entry)) ⌝ }
 {
     let row = fetch(rows, cell);
     if let Some(row) = row {

@@ -25,7 +25,8 @@ pub returns-in-Break-grade : need.returns-in-Break-grade
 returns-in-Break-grade g c =
     let s = g .S·Scheme .model (c .args .scheme .now) in
     let h = g .H·Heap .meaning (c .args .heap .now) in
-    absurd (never-short (c .args .rows .now) 0 (c .if-rows .left) s h _ (c .in-Break-grade .ensures tt .answers))
+    let short = c .in-Break-grade .ensures tt .answers in
+    absurd (never-short (c .args .rows .now) 0 (c .if-rows .left) s h _ short)
 
 pub part-tell-end-2 : need.part-tell-end-2
 part-tell-end-2 g c =
@@ -33,7 +34,8 @@ part-tell-end-2 g c =
     let law = g .S·Scheme·met .lawful (c .args .scheme .now) in
     let h = g .H·Heap .meaning (c .args .heap .now) in
     let wf = g .H·Heap .formed (c .args .heap .now) in
-    sym (front-wide s law h wf (c .args .rows .now) (c .grade .last .rows) (c .if-rows .left) (c .grade .ensures .fills))
+    let is = c .grade .ensures .fills in
+    sym (front-wide s law h wf (c .args .rows .now) (c .grade .last .rows) (c .if-rows .left) is)
 
 pub tell-requires : need.tell-requires
 tell-requires g c κs =
@@ -62,9 +64,11 @@ returns g c =
     let small = c .if-cell .left in
     let is = c .grade .ensures .fills in
     record {
-      answers = answers s law h wf lent after enough is n small steps (c .tell .result) (c .tell .ensures .answers);
+      answers = answers s law h wf lent after enough is n small steps (c .tell .result)
+          (c .tell .ensures .answers);
       fills = fills s law h wf lent after enough is n small steps;
-      lists = lists s law h wf lent after enough is n small steps (c .tell .last .steps) (c .tell .ensures .lists);
-      unfolds = unfolds s law h wf lent after enough is n small steps (c .tell .last .steps) (c .tell .result)
-          (c .tell .ensures .answers) (c .tell .ensures .lists);
+      lists = lists s law h wf lent after enough is n small steps (c .tell .last .steps)
+          (c .tell .ensures .lists);
+      unfolds = unfolds s law h wf lent after enough is n small steps (c .tell .last .steps)
+          (c .tell .result) (c .tell .ensures .answers) (c .tell .ensures .lists);
     }

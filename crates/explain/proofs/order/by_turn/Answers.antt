@@ -3,7 +3,8 @@ use native.Mathlib.Omega.{arith}
 use lib.ListN.{length, getD}
 use Rattle.std.specs.declared.option.Option.the-variants.{None}
 use Rattle.explain.specs.Walking.{Cells}
-use Rattle.explain.proofs.Walks.{order-more, order-all, order-first, length-placed, cells-placed, cells-first}
+use Rattle.explain.proofs.Walks.{order-more, order-all, order-first}
+use Rattle.explain.proofs.Walks.{length-placed, cells-placed, cells-first}
 use Rattle.explain.proofs.order.by_turn.Needs as need
 
 pub loop-cell-holds : need.loop-cell-holds

@@ -15,8 +15,8 @@ loop-left-holds g c =
       length-set (replicate 1024 false) (c .args .cell) true ∙ length-replicate 1024 false,
       omega arith,
       omega arith,
-      walk-first h (c .args .rows .now) (order .result) (c .args .found .now) (c .args .cell) (c .args .turn)
-          1024 (order .ensures .is) (omega arith),
+      walk-first h (c .args .rows .now) (order .result) (c .args .found .now) (c .args .cell)
+          (c .args .turn) 1024 (order .ensures .is) (omega arith),
     )
 
 pub loop-left-again : need.loop-left-again
@@ -42,7 +42,8 @@ returns g c =
     let rows = c .args .rows .now in
     let at = c .loop-left in
     record {
-      steps = walk-end h rows (c .by-turn-order .result) (at .left) (at .marks) (drop (at .first) (at .found))
+      steps = walk-end h rows (c .by-turn-order .result) (at .left) (at .marks)
+          (drop (at .first) (at .found))
           (steps-of h rows (c .args .cell) (c .args .turn)) (omega arith) (at .inv .3);
       within = at .inv .2;
     }
