@@ -18,7 +18,8 @@ use Rattle.model.specs.Calls.{empty-heap}
 use Rattle.snapshot.specs.declared.header.Pair.{Pair}
 use Rattle.snapshot.specs.declared.header.Layout.{Layout}
 use Rattle.snapshot.specs.Sections.{which}
-use Rattle.snapshot.specs.Header.{layout-of, end, section, lead, file-length-fault, places-fault, lengths-fault, pairs-fault, header-fault}
+use Rattle.snapshot.specs.Header.{layout-of, end, section, lead}
+use Rattle.snapshot.specs.Header.{file-length-fault, places-fault, lengths-fault, pairs-fault, header-fault}
 use Rattle.snapshot.specs.Entries.{cells-fault, roots-fault, links-fault, ephemerons-fault, entries-fault}
 use Rattle.snapshot.specs.Laid.{cell-in, record-in, table, laid, file-fault}
 use Rattle.snapshot.proofs.Firsts.{first-none}
@@ -35,7 +36,8 @@ file-head bs f h = ap (λ (o : Option Fault). first o (entries-fault (layout-of 
     (section bs (layout-of bs .cells)) (section bs (layout-of bs .roots))
     (section bs (layout-of bs .links)) (section bs (layout-of bs .ephemerons)))) h
 
-pub file-entries : (bs : List ℕ) (l : Layout) (cs rs ls es : List ℕ) → header-fault bs ≡ None → l ≡ layout-of bs →
+pub file-entries : (bs : List ℕ) (l : Layout) (cs rs ls es : List ℕ) → header-fault bs ≡ None →
+    l ≡ layout-of bs →
     cs ≡ section bs (l .cells) → rs ≡ section bs (l .roots) →
     ls ≡ section bs (l .links) → es ≡ section bs (l .ephemerons) →
     file-fault bs ≡ entries-fault l cs rs ls es

@@ -12,7 +12,8 @@ use Rattle.model.specs.Faults.{fault, unless, first}
 use Rattle.snapshot.specs.Numbers.{u32-at}
 use Rattle.snapshot.specs.Sections.{field, number, entries, rises, has, Rising, Sorted}
 use Rattle.snapshot.specs.Entries.{judged, cell-fits, root-fits, link-fits, ephemeron-fits, first-of}
-use Rattle.snapshot.specs.Entries.{cell-entry-fault, root-entry-fault, link-entry-fault, ephemeron-entry-fault}
+use Rattle.snapshot.specs.Entries.{cell-entry-fault, root-entry-fault}
+use Rattle.snapshot.specs.Entries.{link-entry-fault, ephemeron-entry-fault}
 use Rattle.snapshot.specs.Entries.{cells-fault, roots-fault, links-fault, ephemerons-fault}
 use Rattle.snapshot.proofs.Firsts.{first-none, none-at}
 

@@ -18,7 +18,8 @@ use Rattle.model.specs.Meaning.{size-fits}
 use Rattle.snapshot.specs.Numbers.{u16-at, u32-at}
 use Rattle.snapshot.specs.Sections.{field, number, entries, found, has, Sorted}
 use Rattle.snapshot.specs.Entries.{cells-fault, roots-fault, links-fault, ephemerons-fault}
-use Rattle.snapshot.specs.Laid.{size-of, root-of, link-of, ephemeron-of, cell-in, root-in, link-in, ephemeron-in, or-else, record-in}
+use Rattle.snapshot.specs.Laid.{size-of, root-of, link-of, ephemeron-of, cell-in}
+use Rattle.snapshot.specs.Laid.{root-in, link-in, ephemeron-in, or-else, record-in}
 use Rattle.snapshot.specs.Alone.{Bytes}
 use Rattle.snapshot.proofs.Halving.{which-at, rising-past}
 use Rattle.snapshot.proofs.Order.{Passed, cell-passed, root-passed, link-passed, ephemeron-passed}
@@ -94,7 +95,8 @@ Same-records rs ls es rs′ ls′ es′ = (n : ℕ) → n < 4096 → record-in r
 
 -- a record of one kind stands in the section of its kind
 only-root : (rs ls es : List ℕ) (o p q : Option ℕ) (t : ℕ) →
-    or-else (root-of rs o) (or-else (link-of ls p) (ephemeron-of es q)) ≡ Some (Root t) → root-of rs o ≡ Some (Root t)
+    or-else (root-of rs o) (or-else (link-of ls p) (ephemeron-of es q)) ≡ Some (Root t) →
+    root-of rs o ≡ Some (Root t)
 only-root rs ls es (Some k) p q t e = e
 only-root rs ls es None (Some k) q t e = cc
 only-root rs ls es None None (Some k) t e = cc
@@ -204,7 +206,8 @@ roots-same cs rs ls es cs′ rs′ ls′ es′ i j t u w x g h same =
     (al .numbers k l, root-parts (field 4 rs k 2) (field 4 rs′ k 2) (al .values k l)))
 
 pub links-same : (cs rs ls es cs′ rs′ ls′ es′ : List ℕ) (i j : ℕ) → Bytes ls → Bytes ls′ →
-    length ls % 8 ≡ 0 → length ls′ % 8 ≡ 0 → links-fault cs rs ls i ≡ None → links-fault cs′ rs′ ls′ j ≡ None →
+    length ls % 8 ≡ 0 → length ls′ % 8 ≡ 0 → links-fault cs rs ls i ≡ None →
+    links-fault cs′ rs′ ls′ j ≡ None →
     Same-records rs ls es rs′ ls′ es′ → ls ≡ ls′
 links-same cs rs ls es cs′ rs′ ls′ es′ i j t u w x g h same =
     let al = alike (number 8 ls) (link-at ls) (entries 8 ls) (number 8 ls′) (link-at ls′) (entries 8 ls′)
