@@ -71,7 +71,8 @@ fewer : {A : Type 0} (f : ℕ → ℕ) (v : ℕ → A) (m : ℕ) (g : ℕ → �
 fewer f v m g w n rf rg into back = elim (cases-lt n m) [
   | inl p ↦
       (let e = into n p in
-      let s = agree f v m g w n rf rg into back (suc (e .0)) (e .0) (omega arith) (omega (arith, e .1)) (e .1) in
+      let s = agree f v m g w n rf rg into back (suc (e .0)) (e .0) (omega arith) (omega (arith, e .1))
+      (e .1) in
       omega (arith, s, e .2, rising-past f m rf (e .0) n (e .1) p))
   | inr p ↦ p
 ]

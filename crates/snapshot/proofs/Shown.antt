@@ -55,11 +55,13 @@ roots-named cs rs i h n = which-all (λ o. Named cs (root-of rs o)) (number 4 rs
     cell-shown cs t (and-parts (ltb (number 4 rs k) 4096) (ltb t 1024) (p .in-range) .1) (p .there))
 
 links-named : (cs rs ls : List ℕ) (i : ℕ) → links-fault cs rs ls i ≡ None → (n : ℕ) → Named cs (link-in ls n)
-links-named cs rs ls i h n = which-all (λ o. Named cs (link-of ls o)) (number 8 ls) (entries 8 ls) n refl (λ k l.
+links-named cs rs ls i h n = which-all (λ o. Named cs (link-of ls o)) (number 8 ls)
+    (entries 8 ls) n refl (λ k l.
     let p = link-passed cs rs ls i h k l in
     let s = field 8 ls k 2 in
     let t = field 8 ls k 4 in
-    let q = four (ltb (number 8 ls k) 4096) (ltb s 1024) (ltb t 1024) (ltb (field 8 ls k 6) 4) (p .in-range) in
+    let q = four (ltb (number 8 ls k) 4096) (ltb s 1024) (ltb t 1024) (ltb (field 8 ls k 6) 4)
+    (p .in-range) in
     let r = and-parts (has 8 cs s) (has 8 cs t) (p .there) in
     and-from (filled-in (cell-list cs) s) (filled-in (cell-list cs) t)
     (cell-shown cs s (q .1) (r .0)) (cell-shown cs t (q .2) (r .1)))
@@ -77,7 +79,8 @@ ephemerons-named cs rs ls es i h n =
     let s = and-parts (has 8 cs b) (has 8 cs v) (r .1) in
     let all = cell-list cs in
     and-from (filled-in all a) (filled-in all b && filled-in all v) (cell-shown cs a (q .1) (r .0))
-    (and-from (filled-in all b) (filled-in all v) (cell-shown cs b (q .2) (s .0)) (cell-shown cs v (q .3) (s .1))))
+    (and-from (filled-in all b) (filled-in all v) (cell-shown cs b (q .2) (s .0))
+    (cell-shown cs v (q .3) (s .1))))
 
 pub names-shown : (cs rs ls es : List ℕ) (i j k : ℕ) → roots-fault cs rs i ≡ None →
     links-fault cs rs ls j ≡ None →
