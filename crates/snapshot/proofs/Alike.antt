@@ -17,7 +17,8 @@ Entry num v count n x = (j : ℕ) × (j < count) × (num j ≡ n) × (v j ≡ x)
 
 -- what is shown of the entry that is found comes of an entry
 pub shown-entry : {A : Type 0} (num : ℕ → ℕ) (v : ℕ → A) (of : Option ℕ → Option A) (count n : ℕ) (x : A) →
-    of None ≡ None → ((j : ℕ) → of (Some j) ≡ Some (v j)) → of (which num count n) ≡ Some x → Entry num v count n x
+    of None ≡ None → ((j : ℕ) → of (Some j) ≡ Some (v j)) → of (which num count n) ≡ Some x →
+    Entry num v count n x
 unfolding which
 shown-entry {A} num v of zero n x none some e = absurd (never (of None) none e)
   where
@@ -38,7 +39,8 @@ abbrev pub Into : {A : Type 0} → (ℕ → ℕ) → (ℕ → A) → ℕ → (�
 Into num v count num′ v′ count′ = (k : ℕ) → k < count → Entry num′ v′ count′ (num k) (v k)
 
 -- the first numbers that differ: the lower one is missing on the other side
-lower : {A : Type 0} (f : ℕ → ℕ) (v : ℕ → A) (m : ℕ) (g : ℕ → ℕ) (w : ℕ → A) (n : ℕ) → Rising f m → Rising g n →
+lower : {A : Type 0} (f : ℕ → ℕ) (v : ℕ → A) (m : ℕ) (g : ℕ → ℕ) (w : ℕ → A) (n : ℕ) → Rising f m →
+    Rising g n →
     Into f v m g w n → (k : ℕ) → k < m → k < n → ((j : ℕ) → j < k → f j ≡ g j) → f k < g k → ⊥
 lower f v m g w n rf rg into k l l′ same lt =
     let e = into k l in
@@ -47,7 +49,8 @@ lower f v m g w n rf rg into k l l′ same lt =
       | inr p ↦ omega (arith, rising-to g n rg k (e .0) p (e .1), e .2)
     ]
 
-agree : {A : Type 0} (f : ℕ → ℕ) (v : ℕ → A) (m : ℕ) (g : ℕ → ℕ) (w : ℕ → A) (n : ℕ) → Rising f m → Rising g n →
+agree : {A : Type 0} (f : ℕ → ℕ) (v : ℕ → A) (m : ℕ) (g : ℕ → ℕ) (w : ℕ → A) (n : ℕ) → Rising f m →
+    Rising g n →
     Into f v m g w n → Into g w n f v m → (c k : ℕ) → k < c → k < m → k < n → f k ≡ g k
 agree f v m g w n rf rg into back zero k l a b = absurd (omega arith)
 agree f v m g w n rf rg into back (suc c) k l a b =
@@ -62,12 +65,14 @@ agree f v m g w n rf rg into back (suc c) k l a b =
     ]
 
 -- neither has more entries
-fewer : {A : Type 0} (f : ℕ → ℕ) (v : ℕ → A) (m : ℕ) (g : ℕ → ℕ) (w : ℕ → A) (n : ℕ) → Rising f m → Rising g n →
+fewer : {A : Type 0} (f : ℕ → ℕ) (v : ℕ → A) (m : ℕ) (g : ℕ → ℕ) (w : ℕ → A) (n : ℕ) → Rising f m →
+    Rising g n →
     Into f v m g w n → Into g w n f v m → m ≤ n
 fewer f v m g w n rf rg into back = elim (cases-lt n m) [
   | inl p ↦
       (let e = into n p in
-      let s = agree f v m g w n rf rg into back (suc (e .0)) (e .0) (omega arith) (omega (arith, e .1)) (e .1) in
+      let s = agree f v m g w n rf rg into back (suc (e .0)) (e .0) (omega arith) (omega (arith, e .1))
+      (e .1) in
       omega (arith, s, e .2, rising-past f m rf (e .0) n (e .1) p))
   | inr p ↦ p
 ]
@@ -77,7 +82,8 @@ pub record Alike {A : Type 0} (f : ℕ → ℕ) (v : ℕ → A) (m : ℕ) (g : �
   pub numbers : (k : ℕ) → k < m → f k ≡ g k
   pub values : (k : ℕ) → k < m → v k ≡ w k
 
-pub alike : {A : Type 0} (f : ℕ → ℕ) (v : ℕ → A) (m : ℕ) (g : ℕ → ℕ) (w : ℕ → A) (n : ℕ) → Rising f m → Rising g n →
+pub alike : {A : Type 0} (f : ℕ → ℕ) (v : ℕ → A) (m : ℕ) (g : ℕ → ℕ) (w : ℕ → A) (n : ℕ) → Rising f m →
+    Rising g n →
     Into f v m g w n → Into g w n f v m → Alike f v m g w n
 alike {A} f v m g w n rf rg into back = record { count = count; numbers = numbers; values = values }
   where

@@ -121,13 +121,15 @@ shared a b t u f g e =
           (bytes-section a (l .cells) t) (bytes-section b (m .cells) u)
           (rw (p .cells) (v .cells)) (rw (q .cells) (w .cells))
           (f .entries .cells) (g .entries .cells) same-cells;
-      roots = roots-same (section a (l .cells)) (section a (l .roots)) (section a (l .links)) (section a (l .ephemerons))
+      roots = roots-same (section a (l .cells)) (section a (l .roots)) (section a (l .links))
+          (section a (l .ephemerons))
           (section b (m .cells)) (section b (m .roots)) (section b (m .links)) (section b (m .ephemerons))
           (l .roots .offset) (m .roots .offset)
           (bytes-section a (l .roots) t) (bytes-section b (m .roots) u)
           (rw (p .roots) (v .roots)) (rw (q .roots) (w .roots))
           (f .entries .roots) (g .entries .roots) same-records;
-      links = links-same (section a (l .cells)) (section a (l .roots)) (section a (l .links)) (section a (l .ephemerons))
+      links = links-same (section a (l .cells)) (section a (l .roots)) (section a (l .links))
+          (section a (l .ephemerons))
           (section b (m .cells)) (section b (m .roots)) (section b (m .links)) (section b (m .ephemerons))
           (l .links .offset) (m .links .offset)
           (bytes-section a (l .links) t) (bytes-section b (m .links) u)
@@ -162,7 +164,8 @@ lead-same a b e f i l = go i l
     parts : (c : List ℕ) → lead c ≡ true →
         (getD c 0 0 ≡ 69) × (getD c 1 0 ≡ 72) × (getD c 2 0 ≡ 1) × (getD c 3 0 ≡ 4)
     parts c h =
-        let p = four (eqb (getD c 0 0) 69) (eqb (getD c 1 0) 72) (eqb (getD c 2 0) 1) (eqb (getD c 3 0) 4) h in
+        let p = four (eqb (getD c 0 0) 69) (eqb (getD c 1 0) 72) (eqb (getD c 2 0) 1)
+        (eqb (getD c 3 0) 4) h in
         (eqb-true _ _ (p .0), eqb-true _ _ (p .1), eqb-true _ _ (p .2), eqb-true _ _ (p .3))
 
     go : (i : ℕ) → i < 4 → getD a i 0 ≡ getD b i 0
@@ -216,9 +219,12 @@ level a b f g s =
     let q = sized b (g .head .places) in
     let x = f .head .places in
     let y = g .head .places in
-    let c : layout-of a .cells .size ≡ layout-of b .cells .size = sym (p .cells) ∙ (ap length (s .cells) ∙ q .cells) in
-    let r : layout-of a .roots .size ≡ layout-of b .roots .size = sym (p .roots) ∙ (ap length (s .roots) ∙ q .roots) in
-    let k : layout-of a .links .size ≡ layout-of b .links .size = sym (p .links) ∙ (ap length (s .links) ∙ q .links) in
+    let c : layout-of a .cells .size ≡ layout-of b .cells .size = sym (p .cells) ∙
+    (ap length (s .cells) ∙ q .cells) in
+    let r : layout-of a .roots .size ≡ layout-of b .roots .size = sym (p .roots) ∙
+    (ap length (s .roots) ∙ q .roots) in
+    let k : layout-of a .links .size ≡ layout-of b .links .size = sym (p .links) ∙
+    (ap length (s .links) ∙ q .links) in
     let d : layout-of a .ephemerons .size ≡ layout-of b .ephemerons .size =
     sym (p .ephemerons) ∙ (ap length (s .ephemerons) ∙ q .ephemerons) in
     record {

@@ -42,7 +42,8 @@ same-below a b s t n e i l = go (i / 2) (omega arith) (omega arith)
 
 -- two sections whose entries agree field by field
 eighth : (a b : List ℕ) (k h : ℕ) → field 8 a k 0 ≡ field 8 b k 0 → field 8 a k 2 ≡ field 8 b k 2 →
-    field 8 a k 4 ≡ field 8 b k 4 → field 8 a k 6 ≡ field 8 b k 6 → k ≡ h / 4 → u16-at a (2 * h) ≡ u16-at b (2 * h)
+    field 8 a k 4 ≡ field 8 b k 4 → field 8 a k 6 ≡ field 8 b k 6 → k ≡ h / 4 →
+    u16-at a (2 * h) ≡ u16-at b (2 * h)
 eighth a b k h p q r s e = elim (cases-eq (2 * h) (8 * k + 0)) [
   | inl x ↦ rw x p
   | inr x ↦ elim (cases-eq (2 * h) (8 * k + 2)) [

@@ -12,7 +12,8 @@ use Rattle.model.specs.Faults.{answer}
 use Rattle.snapshot.specs.declared.header.Layout.{Layout}
 use Rattle.snapshot.specs.Header.{pairs-of, layout-of, lead, pairs-fault, header-fault}
 
-pub led : (bs : List ℕ) → getD bs 0 0 ≡ 69 → getD bs 1 0 ≡ 72 → getD bs 2 0 ≡ 1 → getD bs 3 0 ≡ 4 → lead bs ≡ true
+pub led : (bs : List ℕ) → getD bs 0 0 ≡ 69 → getD bs 1 0 ≡ 72 → getD bs 2 0 ≡ 1 → getD bs 3 0 ≡ 4 →
+    lead bs ≡ true
 led bs a b c d = rw (a, b, c, d)
 
 pub head-fault : (bs : List ℕ) → 36 ≤ length bs → length bs ≤ 65536 → lead bs ≡ true →

@@ -18,7 +18,8 @@ use Rattle.model.specs.Calls.{empty-heap}
 use Rattle.snapshot.specs.declared.header.Pair.{Pair}
 use Rattle.snapshot.specs.declared.header.Layout.{Layout}
 use Rattle.snapshot.specs.Sections.{which}
-use Rattle.snapshot.specs.Header.{layout-of, end, section, lead, file-length-fault, places-fault, lengths-fault, pairs-fault, header-fault}
+use Rattle.snapshot.specs.Header.{layout-of, end, section, lead}
+use Rattle.snapshot.specs.Header.{file-length-fault, places-fault, lengths-fault, pairs-fault, header-fault}
 use Rattle.snapshot.specs.Entries.{cells-fault, roots-fault, links-fault, ephemerons-fault, entries-fault}
 use Rattle.snapshot.specs.Laid.{cell-in, record-in, table, laid, file-fault}
 use Rattle.snapshot.proofs.Firsts.{first-none}
@@ -35,7 +36,8 @@ file-head bs f h = ap (λ (o : Option Fault). first o (entries-fault (layout-of 
     (section bs (layout-of bs .cells)) (section bs (layout-of bs .roots))
     (section bs (layout-of bs .links)) (section bs (layout-of bs .ephemerons)))) h
 
-pub file-entries : (bs : List ℕ) (l : Layout) (cs rs ls es : List ℕ) → header-fault bs ≡ None → l ≡ layout-of bs →
+pub file-entries : (bs : List ℕ) (l : Layout) (cs rs ls es : List ℕ) → header-fault bs ≡ None →
+    l ≡ layout-of bs →
     cs ≡ section bs (l .cells) → rs ≡ section bs (l .roots) →
     ls ≡ section bs (l .links) → es ≡ section bs (l .ephemerons) →
     file-fault bs ≡ entries-fault l cs rs ls es
@@ -44,7 +46,8 @@ file-entries bs l cs rs ls es h e a b c d =
     (section bs (layout-of bs .cells)) (section bs (layout-of bs .roots))
     (section bs (layout-of bs .links)) (section bs (layout-of bs .ephemerons)))) h
     ∙ (ap (λ (m : Layout). entries-fault m
-    (section bs (m .cells)) (section bs (m .roots)) (section bs (m .links)) (section bs (m .ephemerons))) (sym e)
+    (section bs (m .cells)) (section bs (m .roots)) (section bs (m .links))
+    (section bs (m .ephemerons))) (sym e)
     ∙ (ap (λ (x : List ℕ). entries-fault l x
     (section bs (l .roots)) (section bs (l .links)) (section bs (l .ephemerons))) (sym a)
     ∙ (ap (λ (x : List ℕ). entries-fault l cs x (section bs (l .links)) (section bs (l .ephemerons))) (sym b)
@@ -92,10 +95,12 @@ pub headed : (bs : List ℕ) → header-fault bs ≡ None → Headed bs
 headed bs e =
     let p = first-none (file-length-fault bs)
     (first (unless (lead bs) (fault LeadBytes 0)) (pairs-fault (layout-of bs) (length bs))) e in
-    let q = first-none (unless (lead bs) (fault LeadBytes 0)) (pairs-fault (layout-of bs) (length bs)) (p .1) in
+    let q = first-none (unless (lead bs) (fault LeadBytes 0)) (pairs-fault (layout-of bs) (length bs))
+    (p .1) in
     let r = first-none (places-fault (layout-of bs) (length bs)) (lengths-fault (layout-of bs)) (q .1) in
     let n = length bs in
-    let s = and-parts (leb 36 n) (leb n 65536) (unless-none (leb 36 n && leb n 65536) (fault FileLength 0) (p .0)) in
+    let s = and-parts (leb 36 n) (leb n 65536)
+    (unless-none (leb 36 n && leb n 65536) (fault FileLength 0) (p .0)) in
     record {
       long = leb-true 36 n (s .0);
       short = leb-true n 65536 (s .1);
@@ -130,7 +135,8 @@ clean l cs rs ls es e =
     record { cells = p .0; roots = q .0; links = r .0; ephemerons = r .1 }
 
 -- no entries lay down nothing
-nothing : (m n : ℕ) → heap-of (table m (cell-in [])) (table n (record-in [] [] [])) ≡ heap-of (replicate m None) (replicate n None)
+nothing : (m n : ℕ) → heap-of (table m (cell-in [])) (table n (record-in [] [] [])) ≡ heap-of
+    (replicate m None) (replicate n None)
 unfolding which
 nothing m n = rw (table-none m (cell-in []) (λ k. refl), table-none n (record-in [] [] []) (λ k. refl))
 

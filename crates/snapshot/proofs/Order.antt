@@ -12,7 +12,8 @@ use Rattle.model.specs.Faults.{fault, unless, first}
 use Rattle.snapshot.specs.Numbers.{u32-at}
 use Rattle.snapshot.specs.Sections.{field, number, entries, rises, has, Rising, Sorted}
 use Rattle.snapshot.specs.Entries.{judged, cell-fits, root-fits, link-fits, ephemeron-fits, first-of}
-use Rattle.snapshot.specs.Entries.{cell-entry-fault, root-entry-fault, link-entry-fault, ephemeron-entry-fault}
+use Rattle.snapshot.specs.Entries.{cell-entry-fault, root-entry-fault}
+use Rattle.snapshot.specs.Entries.{link-entry-fault, ephemeron-entry-fault}
 use Rattle.snapshot.specs.Entries.{cells-fault, roots-fault, links-fault, ephemerons-fault}
 use Rattle.snapshot.proofs.Firsts.{first-none, none-at}
 
@@ -43,19 +44,22 @@ passed place a b c d e =
 
 -- what each entry passed, in a section without fault
 pub cell-passed : (cs : List ℕ) (i : ℕ) → cells-fault cs i ≡ None → (k : ℕ) → k < entries 8 cs →
-    Passed (cell-fits (number 8 cs k) (field 8 cs k 2) (u32-at cs (8 * k + 4))) (rises (number 8 cs) k) true true
+    Passed (cell-fits (number 8 cs k) (field 8 cs k 2) (u32-at cs (8 * k + 4)))
+    (rises (number 8 cs) k) true true
 cell-passed cs i h k l = passed (i + 8 * k)
     (cell-fits (number 8 cs k) (field 8 cs k 2) (u32-at cs (8 * k + 4))) (rises (number 8 cs) k) true true
     (none-at (cell-entry-fault cs i) (entries 8 cs) h k l)
 
 pub root-passed : (cs rs : List ℕ) (i : ℕ) → roots-fault cs rs i ≡ None → (k : ℕ) → k < entries 4 rs →
-    Passed (root-fits (number 4 rs k) (field 4 rs k 2)) (rises (number 4 rs) k) true (has 8 cs (field 4 rs k 2))
+    Passed (root-fits (number 4 rs k) (field 4 rs k 2)) (rises (number 4 rs) k) true
+    (has 8 cs (field 4 rs k 2))
 root-passed cs rs i h k l = passed (i + 4 * k)
     (root-fits (number 4 rs k) (field 4 rs k 2)) (rises (number 4 rs) k) true (has 8 cs (field 4 rs k 2))
     (none-at (root-entry-fault cs rs i) (entries 4 rs) h k l)
 
 pub link-passed : (cs rs ls : List ℕ) (i : ℕ) → links-fault cs rs ls i ≡ None → (k : ℕ) → k < entries 8 ls →
-    Passed (link-fits (number 8 ls k) (field 8 ls k 2) (field 8 ls k 4) (field 8 ls k 6)) (rises (number 8 ls) k)
+    Passed (link-fits (number 8 ls k) (field 8 ls k 2) (field 8 ls k 4) (field 8 ls k 6))
+    (rises (number 8 ls) k)
     (not (has 4 rs (number 8 ls k))) (has 8 cs (field 8 ls k 2) && has 8 cs (field 8 ls k 4))
 link-passed cs rs ls i h k l = passed (i + 8 * k)
     (link-fits (number 8 ls k) (field 8 ls k 2) (field 8 ls k 4) (field 8 ls k 6)) (rises (number 8 ls) k)
@@ -64,11 +68,13 @@ link-passed cs rs ls i h k l = passed (i + 8 * k)
 
 pub ephemeron-passed : (cs rs ls es : List ℕ) (i : ℕ) → ephemerons-fault cs rs ls es i ≡ None →
     (k : ℕ) → k < entries 8 es →
-    Passed (ephemeron-fits (number 8 es k) (field 8 es k 2) (field 8 es k 4) (field 8 es k 6)) (rises (number 8 es) k)
+    Passed (ephemeron-fits (number 8 es k) (field 8 es k 2) (field 8 es k 4) (field 8 es k 6))
+    (rises (number 8 es) k)
     (not (has 4 rs (number 8 es k)) && not (has 8 ls (number 8 es k)))
     (has 8 cs (field 8 es k 2) && (has 8 cs (field 8 es k 4) && has 8 cs (field 8 es k 6)))
 ephemeron-passed cs rs ls es i h k l = passed (i + 8 * k)
-    (ephemeron-fits (number 8 es k) (field 8 es k 2) (field 8 es k 4) (field 8 es k 6)) (rises (number 8 es) k)
+    (ephemeron-fits (number 8 es k) (field 8 es k 2) (field 8 es k 4) (field 8 es k 6))
+    (rises (number 8 es) k)
     (not (has 4 rs (number 8 es k)) && not (has 8 ls (number 8 es k)))
     (has 8 cs (field 8 es k 2) && (has 8 cs (field 8 es k 4) && has 8 cs (field 8 es k 6)))
     (none-at (ephemeron-entry-fault cs rs ls es i) (entries 8 es) h k l)

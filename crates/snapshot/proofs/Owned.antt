@@ -18,7 +18,8 @@ use Rattle.model.specs.Meaning.{size-fits}
 use Rattle.snapshot.specs.Numbers.{u16-at, u32-at}
 use Rattle.snapshot.specs.Sections.{field, number, entries, found, has, Sorted}
 use Rattle.snapshot.specs.Entries.{cells-fault, roots-fault, links-fault, ephemerons-fault}
-use Rattle.snapshot.specs.Laid.{size-of, root-of, link-of, ephemeron-of, cell-in, root-in, link-in, ephemeron-in, or-else, record-in}
+use Rattle.snapshot.specs.Laid.{size-of, root-of, link-of, ephemeron-of, cell-in}
+use Rattle.snapshot.specs.Laid.{root-in, link-in, ephemeron-in, or-else, record-in}
 use Rattle.snapshot.specs.Alone.{Bytes}
 use Rattle.snapshot.proofs.Halving.{which-at, rising-past}
 use Rattle.snapshot.proofs.Order.{Passed, cell-passed, root-passed, link-passed, ephemeron-passed}
@@ -94,7 +95,8 @@ Same-records rs ls es rs′ ls′ es′ = (n : ℕ) → n < 4096 → record-in r
 
 -- a record of one kind stands in the section of its kind
 only-root : (rs ls es : List ℕ) (o p q : Option ℕ) (t : ℕ) →
-    or-else (root-of rs o) (or-else (link-of ls p) (ephemeron-of es q)) ≡ Some (Root t) → root-of rs o ≡ Some (Root t)
+    or-else (root-of rs o) (or-else (link-of ls p) (ephemeron-of es q)) ≡ Some (Root t) →
+    root-of rs o ≡ Some (Root t)
 only-root rs ls es (Some k) p q t e = e
 only-root rs ls es None (Some k) q t e = cc
 only-root rs ls es None None (Some k) t e = cc
@@ -134,7 +136,8 @@ links-into : (cs rs ls es rs′ ls′ es′ : List ℕ) (i : ℕ) → links-faul
 links-into cs rs ls es rs′ ls′ es′ i h same k l =
     let n = number 8 ls k in
     let q = link-passed cs rs ls i h k l in
-    let p = four (ltb n 4096) (ltb (field 8 ls k 2) 1024) (ltb (field 8 ls k 4) 1024) (ltb (field 8 ls k 6) 4) (q .in-range) in
+    let p = four (ltb n 4096) (ltb (field 8 ls k 2) 1024) (ltb (field 8 ls k 4) 1024)
+    (ltb (field 8 ls k 6) 4) (q .in-range) in
     let shown : record-in rs ls es n ≡ Some (link-at ls k) =
     ap (λ (o : Option ℕ). or-else (root-of rs o) (or-else (link-in ls n) (ephemeron-in es n)))
     (absent (found 4 rs n) (q .new))
@@ -151,14 +154,16 @@ ephemerons-into : (cs rs ls es rs′ ls′ es′ : List ℕ) (i : ℕ) → ephem
 ephemerons-into cs rs ls es rs′ ls′ es′ i h same k l =
     let n = number 8 es k in
     let q = ephemeron-passed cs rs ls es i h k l in
-    let p = four (ltb n 4096) (ltb (field 8 es k 2) 1024) (ltb (field 8 es k 4) 1024) (ltb (field 8 es k 6) 1024) (q .in-range) in
+    let p = four (ltb n 4096) (ltb (field 8 es k 2) 1024) (ltb (field 8 es k 4) 1024)
+    (ltb (field 8 es k 6) 1024) (q .in-range) in
     let free = and-parts (not (has 4 rs n)) (not (has 8 ls n)) (q .new) in
     let shown : record-in rs ls es n ≡ Some (ephemeron-at es k) =
     ap (λ (o : Option ℕ). or-else (root-of rs o) (or-else (link-in ls n) (ephemeron-in es n)))
     (absent (found 4 rs n) (free .0))
     ∙ (ap (λ (o : Option ℕ). or-else (link-of ls o) (ephemeron-in es n)) (absent (found 8 ls n) (free .1))
     ∙ ap (ephemeron-of es) (here 8 es (ephemerons-sorted cs rs ls es i h) k l)) in
-    shown-entry (number 8 es′) (ephemeron-at es′) (ephemeron-of es′) (entries 8 es′) n (ephemeron-at es k) refl (λ j. refl)
+    shown-entry (number 8 es′) (ephemeron-at es′) (ephemeron-of es′) (entries 8 es′) n
+    (ephemeron-at es k) refl (λ j. refl)
     (only-ephemeron rs′ ls′ es′ (found 4 rs′ n) (found 8 ls′ n) (found 8 es′ n)
     (field 8 es k 2) (field 8 es k 4) (field 8 es k 6)
     (sym (same n (ltb-true n 4096 (p .0))) ∙ shown))
@@ -204,7 +209,8 @@ roots-same cs rs ls es cs′ rs′ ls′ es′ i j t u w x g h same =
     (al .numbers k l, root-parts (field 4 rs k 2) (field 4 rs′ k 2) (al .values k l)))
 
 pub links-same : (cs rs ls es cs′ rs′ ls′ es′ : List ℕ) (i j : ℕ) → Bytes ls → Bytes ls′ →
-    length ls % 8 ≡ 0 → length ls′ % 8 ≡ 0 → links-fault cs rs ls i ≡ None → links-fault cs′ rs′ ls′ j ≡ None →
+    length ls % 8 ≡ 0 → length ls′ % 8 ≡ 0 → links-fault cs rs ls i ≡ None →
+    links-fault cs′ rs′ ls′ j ≡ None →
     Same-records rs ls es rs′ ls′ es′ → ls ≡ ls′
 links-same cs rs ls es cs′ rs′ ls′ es′ i j t u w x g h same =
     let al = alike (number 8 ls) (link-at ls) (entries 8 ls) (number 8 ls′) (link-at ls′) (entries 8 ls′)
@@ -228,7 +234,8 @@ pub ephemerons-same : (cs rs ls es cs′ rs′ ls′ es′ : List ℕ) (i j : �
     ephemerons-fault cs rs ls es i ≡ None → ephemerons-fault cs′ rs′ ls′ es′ j ≡ None →
     Same-records rs ls es rs′ ls′ es′ → es ≡ es′
 ephemerons-same cs rs ls es cs′ rs′ ls′ es′ i j t u w x g h same =
-    let al = alike (number 8 es) (ephemeron-at es) (entries 8 es) (number 8 es′) (ephemeron-at es′) (entries 8 es′)
+    let al = alike (number 8 es) (ephemeron-at es) (entries 8 es) (number 8 es′) (ephemeron-at es′)
+    (entries 8 es′)
     (ephemerons-sorted cs rs ls es i g) (ephemerons-sorted cs′ rs′ ls′ es′ j h)
     (ephemerons-into cs rs ls es rs′ ls′ es′ i g same)
     (ephemerons-into cs′ rs′ ls′ es′ rs ls es j h (λ n l. sym (same n l))) in

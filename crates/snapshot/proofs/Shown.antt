@@ -13,7 +13,8 @@ use Rattle.model.specs.Meaning.{size-fits, filled-in, names-filled, Sizes-fit, 
 use Rattle.snapshot.specs.Numbers.{u32-at}
 use Rattle.snapshot.specs.Sections.{field, number, entries, found, has}
 use Rattle.snapshot.specs.Entries.{cells-fault, roots-fault, links-fault, ephemerons-fault}
-use Rattle.snapshot.specs.Laid.{size-of, root-of, link-of, ephemeron-of, cell-in, root-in, link-in, ephemeron-in, or-else, record-in, cell-list, record-list}
+use Rattle.snapshot.specs.Laid.{size-of, root-of, link-of, ephemeron-of, cell-in, root-in}
+use Rattle.snapshot.specs.Laid.{link-in, ephemeron-in, or-else, record-in, cell-list, record-list}
 use Rattle.snapshot.proofs.Order.{Passed, cell-passed, root-passed, link-passed, ephemeron-passed}
 use Rattle.snapshot.proofs.Tables.{table-at, table-all, which-all, or-else-all}
 
@@ -30,12 +31,14 @@ some-size : (cs : List ℕ) (o : Option ℕ) → isSome o ≡ true → isSome (s
 some-size cs None e = cc
 some-size cs (Some k) e = refl
 
-pub cell-shown : (cs : List ℕ) (t : ℕ) → ltb t 1024 ≡ true → has 8 cs t ≡ true → filled-in (cell-list cs) t ≡ true
+pub cell-shown : (cs : List ℕ) (t : ℕ) → ltb t 1024 ≡ true → has 8 cs t ≡ true →
+    filled-in (cell-list cs) t ≡ true
 cell-shown cs t l h =
     ap isSome (table-at 1024 (cell-in cs) t (ltb-true t 1024 l)) ∙ some-size cs (found 8 cs t) h
 
 -- the parts of four tests
-pub four : (a b c d : Bool) → (a && (b && (c && d))) ≡ true → (a ≡ true) × (b ≡ true) × (c ≡ true) × (d ≡ true)
+pub four : (a b c d : Bool) → (a && (b && (c && d))) ≡ true →
+    (a ≡ true) × (b ≡ true) × (c ≡ true) × (d ≡ true)
 four a b c d e =
     let p = and-parts a (b && (c && d)) e in
     let q = and-parts b (c && d) (p .1) in
@@ -52,11 +55,13 @@ roots-named cs rs i h n = which-all (λ o. Named cs (root-of rs o)) (number 4 rs
     cell-shown cs t (and-parts (ltb (number 4 rs k) 4096) (ltb t 1024) (p .in-range) .1) (p .there))
 
 links-named : (cs rs ls : List ℕ) (i : ℕ) → links-fault cs rs ls i ≡ None → (n : ℕ) → Named cs (link-in ls n)
-links-named cs rs ls i h n = which-all (λ o. Named cs (link-of ls o)) (number 8 ls) (entries 8 ls) n refl (λ k l.
+links-named cs rs ls i h n = which-all (λ o. Named cs (link-of ls o)) (number 8 ls)
+    (entries 8 ls) n refl (λ k l.
     let p = link-passed cs rs ls i h k l in
     let s = field 8 ls k 2 in
     let t = field 8 ls k 4 in
-    let q = four (ltb (number 8 ls k) 4096) (ltb s 1024) (ltb t 1024) (ltb (field 8 ls k 6) 4) (p .in-range) in
+    let q = four (ltb (number 8 ls k) 4096) (ltb s 1024) (ltb t 1024) (ltb (field 8 ls k 6) 4)
+    (p .in-range) in
     let r = and-parts (has 8 cs s) (has 8 cs t) (p .there) in
     and-from (filled-in (cell-list cs) s) (filled-in (cell-list cs) t)
     (cell-shown cs s (q .1) (r .0)) (cell-shown cs t (q .2) (r .1)))
@@ -74,9 +79,11 @@ ephemerons-named cs rs ls es i h n =
     let s = and-parts (has 8 cs b) (has 8 cs v) (r .1) in
     let all = cell-list cs in
     and-from (filled-in all a) (filled-in all b && filled-in all v) (cell-shown cs a (q .1) (r .0))
-    (and-from (filled-in all b) (filled-in all v) (cell-shown cs b (q .2) (s .0)) (cell-shown cs v (q .3) (s .1))))
+    (and-from (filled-in all b) (filled-in all v) (cell-shown cs b (q .2) (s .0))
+    (cell-shown cs v (q .3) (s .1))))
 
-pub names-shown : (cs rs ls es : List ℕ) (i j k : ℕ) → roots-fault cs rs i ≡ None → links-fault cs rs ls j ≡ None →
+pub names-shown : (cs rs ls es : List ℕ) (i j k : ℕ) → roots-fault cs rs i ≡ None →
+    links-fault cs rs ls j ≡ None →
     ephemerons-fault cs rs ls es k ≡ None → Names-filled (cell-list cs) (record-list rs ls es)
 names-shown cs rs ls es i j k a b c = table-all (Named cs) 4096 (record-in rs ls es) refl (λ n.
     or-else-all (Named cs) (root-in rs n) (or-else (link-in ls n) (ephemeron-in es n))

@@ -32,7 +32,8 @@ table-all {A} P n f none each = go 0 n
     go a (suc n) zero = each a
     go a (suc n) (suc i) = go (a + 1) n i
 
-pub table-none : {A : Type 0} (n : ℕ) (f : ℕ → Option A) → ((k : ℕ) → f k ≡ None) → table n f ≡ replicate n None
+pub table-none : {A : Type 0} (n : ℕ) (f : ℕ → Option A) → ((k : ℕ) → f k ≡ None) →
+    table n f ≡ replicate n None
 unfolding table
 table-none {A} n f h = go 0 n
   where

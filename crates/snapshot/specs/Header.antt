@@ -46,7 +46,8 @@ places-fault l n =
     first (unless (eqb (l .cells .offset) 36) (fault SectionPlace 4))
     (first (unless (eqb (l .roots .offset) (end (l .cells))) (fault SectionPlace 12))
     (first (unless (eqb (l .links .offset) (end (l .roots))) (fault SectionPlace 20))
-    (unless (eqb (l .ephemerons .offset) (end (l .links)) && eqb (end (l .ephemerons)) n) (fault SectionPlace 28))))
+    (unless (eqb (l .ephemerons .offset) (end (l .links)) && eqb (end (l .ephemerons)) n)
+    (fault SectionPlace 28))))
 
 -- a root has 4 bytes, any other entry 8
 abbrev pub lengths-fault : Layout → Option Fault

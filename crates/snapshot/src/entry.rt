@@ -109,7 +109,8 @@ pub(crate) fn check_cell(cells: &[u8], start: u32, i: usize) -> Result<(), Fault
 }
 
 pub(crate) fn check_root(cells: &[u8], roots: &[u8], start: u32, i: usize) -> Result<(), Fault>
-    requires { ⌜ i < entries 4 (now roots) ⌝ ∗ ⌜ start + length (now roots) ≤ 65536 ⌝ ∗ ⌜ Sorted 8 (now cells) ⌝ }
+    requires { ⌜ i < entries 4 (now roots) ⌝ ∗ ⌜ start + length (now roots) ≤ 65536 ⌝ }
+    requires { ⌜ Sorted 8 (now cells) ⌝ }
     ensures { λ r. ⌜ r ≡ answer (root-entry-fault (now (cells .entry)) (now (roots .entry)) start i) tt ⌝ }
 {
     let number = field_at(roots, ROOT, i, 0);
@@ -158,8 +159,8 @@ pub(crate) fn check_ephemeron(
 ) -> Result<(), Fault>
     requires { ⌜ i < entries 8 (now ephemerons) ⌝ ∗ ⌜ start + length (now ephemerons) ≤ 65536 ⌝ }
     requires { ⌜ Sorted 8 (now cells) ⌝ ∗ ⌜ Sorted 4 (now roots) ⌝ ∗ ⌜ Sorted 8 (now links) ⌝ }
-    ensures { λ r. ⌜ r ≡ answer (ephemeron-entry-fault
-        (now (cells .entry)) (now (roots .entry)) (now (links .entry)) (now (ephemerons .entry)) start i) tt ⌝ }
+    ensures { λ r. ⌜ r ≡ answer (ephemeron-entry-fault (now (cells .entry)) (now (roots .entry))
+        (now (links .entry)) (now (ephemerons .entry)) start i) tt ⌝ }
 {
     let number = field_at(ephemerons, EPHEMERON, i, 0);
     let table = field_at(ephemerons, EPHEMERON, i, 2);

@@ -1,9 +1,7 @@
 // A section's entries, read where they lie. They are sorted by number, so that one
 // is found by halving.
 ghost use mathlib.Core.Path.{_≡_};
-ghost use mathlib.Core.Bool.{Bool};
-ghost use Prim.Native.Nat.{_+_, _*_, _≤_, _<_};
-ghost use lib.ListN.{length};
+ghost use Prim.Native.Nat.{_+_, _≤_, _<_};
 ghost use Rattle.std.specs.Options.{Cases as BySome};
 ghost use Rattle.snapshot.specs.Sections.{field, number, entries, rises, found, has, Sorted};
 use crate::numbers::u16_at;

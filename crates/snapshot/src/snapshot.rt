@@ -19,5 +19,6 @@ pub struct Snapshot<'a> {
     ghost links_sorted: { Sorted 8 (now links) },
     ghost ephemerons_sorted: { Sorted 8 (now ephemerons) },
     ghost sizes: { Sizes-fit (cell-list (now cells)) },
-    ghost names: { Names-filled (cell-list (now cells)) (record-list (now roots) (now links) (now ephemerons)) },
+    ghost names: { Names-filled (cell-list (now cells))
+        (record-list (now roots) (now links) (now ephemerons)) },
 }

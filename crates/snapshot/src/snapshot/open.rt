@@ -27,7 +27,8 @@ impl<'a> Snapshot<'a> {
     pub fn open(&mut self, bytes: &'a [u8]) -> Result<(), Fault>
         ensures answers { λ r. ⌜ r ≡ answer (file-fault (now (bytes .entry))) tt ⌝ }
         ensures leaves { λ _. ⌜ meaning-of (now (self .exit)) ≡
-            left (file-fault (now (bytes .entry))) (laid-down (now (bytes .entry))) (meaning-of (now (self .entry))) ⌝ }
+            left (file-fault (now (bytes .entry))) (laid-down (now (bytes .entry)))
+            (meaning-of (now (self .entry))) ⌝ }
         ensures alone { λ _. ⌜ Alone (now (bytes .entry)) ⌝ }
     {
         let layout = Layout::of(bytes)?;

@@ -15,6 +15,7 @@ pub returns-in-Break-check-ephemeron : need.returns-in-Break-check-ephemeron
 returns-in-Break-check-ephemeron c =
     let p = err-from-errBy (c .from-residual .result) (c .from-residual .ensures .1) in
     rw (p .1, p .2)
-    (stops (ephemeron-entry-fault (c .args .cells .now) (c .args .roots .now) (c .args .links .now) (c .args .ephemerons .now) (c .args .start))
+    (stops (ephemeron-entry-fault (c .args .cells .now) (c .args .roots .now) (c .args .links .now)
+    (c .args .ephemerons .now) (c .args .start))
     (c .loop-i .i) (entries 8 (c .args .ephemerons .now)) (c .in-Break-check-ephemeron .field-0 .0)
     (c .loop-i .inv) (c .in-Break-check-ephemeron .ensures tt) (omega arith))

@@ -4,4 +4,5 @@ use Rattle.snapshot.specs.Entries.{first-of, ephemeron-entry-fault}
 use Rattle.snapshot.proofs.entries.check_ephemerons.Given as given
 
 abbrev pub Inv-loop-i : given.InvT-loop-i
-Inv-loop-i l = first-of (ephemeron-entry-fault (l .cells) (l .roots) (l .links) (l .ephemerons) (l .start)) (l .i) ≡ None
+Inv-loop-i l = first-of (ephemeron-entry-fault (l .cells) (l .roots) (l .links) (l .ephemerons)
+    (l .start)) (l .i) ≡ None

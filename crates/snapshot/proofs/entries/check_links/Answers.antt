@@ -15,6 +15,7 @@ pub returns-in-Break-check-link : need.returns-in-Break-check-link
 returns-in-Break-check-link c =
     let p = err-from-errBy (c .from-residual .result) (c .from-residual .ensures .1) in
     rw (p .1, p .2)
-    (stops (link-entry-fault (c .args .cells .now) (c .args .roots .now) (c .args .links .now) (c .args .start))
+    (stops (link-entry-fault (c .args .cells .now) (c .args .roots .now) (c .args .links .now)
+    (c .args .start))
     (c .loop-i .i) (entries 8 (c .args .links .now)) (c .in-Break-check-link .field-0 .0)
     (c .loop-i .inv) (c .in-Break-check-link .ensures tt) (omega arith))

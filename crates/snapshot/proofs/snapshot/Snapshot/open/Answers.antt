@@ -31,7 +31,8 @@ check-entries-requires c κs =
     let l = c .in-Continue-layout .layout in
     let h = headed bs (no-fault _ _ _ (c .in-Continue-layout .ensures tt)) in
     let p : Placed l (length bs) =
-    subst (λ (m : Layout). Placed m (length bs)) (sym (ok-is _ _ _ (c .in-Continue-layout .ensures tt))) (h .places) in (
+    subst (λ (m : Layout). Placed m (length bs)) (sym (ok-is _ _ _ (c .in-Continue-layout .ensures tt)))
+    (h .places) in (
       cut-within bs _ (l .cells) (c .cut-cells .ensures) (omega arith) (omega arith),
       cut-within bs _ (l .roots) (c .cut-roots .ensures) (omega arith) (omega arith),
       cut-within bs _ (l .links) (c .cut-links .ensures) (omega arith) (omega arith),
@@ -49,7 +50,8 @@ returns-in-Break-check-entries c =
 
 pub ghost-self : need.ghost-self
 ghost-self c =
-    let p = clean (c .in-Continue-layout .layout) _ _ _ _ (no-fault _ _ _ (c .in-Continue-check-entries .ensures tt)) in (
+    let p = clean (c .in-Continue-layout .layout) _ _ _ _
+    (no-fault _ _ _ (c .in-Continue-check-entries .ensures tt)) in (
       cells-sorted _ _ (p .cells),
       (
         roots-sorted _ _ _ (p .roots),
