@@ -38,7 +38,6 @@ fn words_that_are_no_command(rt: LibcRuntime) -> Result<(), Fail> {
             ("cc 0 1", "no t 31 0"),
             ("0 0 1", "no t 31 0"),
             ("é 0 1", "no t 31 0"),
-            ("w s 3", "no t 31 0"),
             ("k s 1", "no t 31 0"),
             ("q 1 2 3 4 5 6", "no t 31 0"),
         ],
