@@ -1,4 +1,6 @@
 // Reads a script from standard input and prints one answer a line.
+#![tactic(auto)]
+
 use script::script::Script;
 use std::io;
 use std::io::{Read, Write};

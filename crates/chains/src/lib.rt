@@ -2,6 +2,8 @@
 // ephemeron's table, and one for an ephemeron's key. A chain leads through the places of each
 // cell, from the lowest up, so that the records that draw on a cell are found without a look
 // at the others.
+#![tactic(auto)]
+
 ghost use Rattle.std.specs.Prelude.{◌≡◌, ℕ, ◌+◌, ◌*◌, ◌<◌, replicate, Some, slice_index_or};
 ghost use Rattle.chains.specs.Places.{first_source, second_source, firsts_with, nexts_with};
 ghost use Rattle.chains.specs.Places.{Linked, Chained};

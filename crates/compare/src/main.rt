@@ -1,5 +1,7 @@
 // Holds the collector against a naive program on heaps made by dice, and prints how often they
 // differ.
+#![tactic(auto)]
+
 use kinds::{KINDS, Kind};
 use scores::Scores;
 use std::io;

@@ -1,5 +1,7 @@
 // Opens files of heaps made by dice, sound and spoilt, and prints how often what came of it was
 // wrong.
+#![tactic(auto)]
+
 use files::try_heap;
 use std::alloc::{AllocError, Global};
 use std::io;

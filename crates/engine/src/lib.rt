@@ -1,3 +1,5 @@
+#![tactic(auto)]
+
 ghost use Rattle.std.specs.Prelude.{◌≡◌, ℕ, ◌<◌, ◌≤◌, length, take, IfOk, None, OnOk, slice_index_or};
 ghost use Rattle.model.specs.Grading.{grade_answer, grade_after, Tells, Numbered, Worsens, AllBacked};
 ghost use Rattle.laws.specs.Order.{InOrder, OnlyInOrder};

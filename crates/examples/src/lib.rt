@@ -1,5 +1,7 @@
 // Worked examples of the rules, and a run of calls that sweeps, as theorems: the checker computes
 // them from the definitions that the contracts cite.
+#![tactic(auto)]
+
 ghost use Rattle.examples.specs.Table.{Examples};
 ghost use Rattle.examples.specs.Sample.{ARunThatSweeps};
 

@@ -1,3 +1,5 @@
+#![tactic(auto)]
+
 ghost use Rattle.std.specs.Prelude.{◌≡◌, ◌<◌, ◌≤◌, ◌++◌, length, take, drop, IfOk};
 ghost use Rattle.model.specs.Faults.{answer, left};
 ghost use Rattle.model.specs.Explaining.{room_fault, told, listed};

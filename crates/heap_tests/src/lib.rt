@@ -1,4 +1,6 @@
 // The heap's calls and questions, the schemes and grading, each called directly.
+#![tactic(auto)]
+
 #[cfg(test)]
 mod calls;
 #[cfg(test)]

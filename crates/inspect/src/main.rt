@@ -1,4 +1,6 @@
 // Says what a saved heap's file holds: inspect FILE [SCHEME [CELL]]
+#![tactic(auto)]
+
 use anyhow::anyhow;
 use report::inspect::{Wanted, inspect};
 use std::io::Write;

@@ -1,3 +1,5 @@
+#![tactic(auto)]
+
 mod cells;
 pub mod flags;
 pub mod live;

@@ -1,6 +1,8 @@
 // Which of two offers is taken first, and offers as they wait in the rows while grading goes
 // on. An empty row belongs to a cell that has no offer yet, a row with a turn below 1,024 to a
 // settled cell, and any other row holds the best offer so far to a cell that waits.
+#![tactic(auto)]
+
 ghost use Rattle.std.specs.Prelude.{◌≡◌};
 ghost use Rattle.model.specs.Settling.{earlier, better_of};
 ghost use Rattle.offers.specs.Offers.{settled_row, held_offer, waiting, row_waiting, overtaken, improved};

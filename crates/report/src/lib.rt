@@ -1,2 +1,4 @@
+#![tactic(auto)]
+
 pub mod count;
 pub mod inspect;

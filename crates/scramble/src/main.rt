@@ -1,5 +1,7 @@
 // Runs scripts made by dice, and prints how often an answer, or what it left in the heap, was
 // wrong.
+#![tactic(auto)]
+
 use scripts::try_script;
 use std::io;
 use trials::dice::Dice;

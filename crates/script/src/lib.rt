@@ -1,3 +1,5 @@
+#![tactic(auto)]
+
 mod buffer;
 pub mod line;
 pub mod print;

@@ -1,4 +1,6 @@
 // Lines with their answers, and scripts with what they print.
+#![tactic(auto)]
+
 #[cfg(test)]
 mod answers;
 #[cfg(test)]

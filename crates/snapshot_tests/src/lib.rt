@@ -1,4 +1,6 @@
 // Files of saved heaps: their faults with their places, and what is shown of them.
+#![tactic(auto)]
+
 #[cfg(test)]
 mod faults;
 #[cfg(test)]

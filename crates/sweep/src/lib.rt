@@ -1,3 +1,5 @@
+#![tactic(auto)]
+
 ghost use Rattle.std.specs.Prelude.{◌≡◌, take, IfOk, OnOk};
 ghost use Rattle.model.specs.Faults.{fault, answer};
 ghost use Rattle.model.specs.Sweeping.{sweep_fault, sweep_answer, sweep_after};
