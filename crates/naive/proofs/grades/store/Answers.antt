@@ -6,5 +6,5 @@ pub returns-else-cell-grades : goal.returns-else-cell-grades
 returns-else-cell-grades g c = record {
   after = sym (set_past _ _ _ (omega arith));
   still = search rules;
-  had-room = search rules;
+  had_room = search rules;
 }

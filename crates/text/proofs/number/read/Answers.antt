@@ -4,11 +4,11 @@ use Rattle.text.proofs.Digits.{read_on_from, read_more, read_end, digits_go, dig
 use Rattle.text.proofs.Digits.{no_digit, too_large, is_number}
 use Rattle.text.proofs.number.read.Goals as goal
 
-pub returns-then-not-is-digit : goal.returns-then-not-is-digit
-returns-then-not-is-digit c =
+pub returns-then-not-is_digit : goal.returns-then-not-is_digit
+returns-then-not-is_digit c =
     let ds = c.args.digits.now in
     let i = c.loop-d.d-index in
-    let stops = digits_stop ds i c.loop-d-test.true c.if-not-is-digit.ensures in
+    let stops = digits_stop ds i c.loop-d-test.true c.if-not-is_digit.ensures in
     no_digit ds (sym c.loop-d.invariant.1 ∙ stops)
 
 pub returns-then-n-gt-LARGEST : goal.returns-then-n-gt-LARGEST
@@ -24,7 +24,7 @@ pub loop-d-preserved : goal.loop-d-preserved
 loop-d-preserved c =
     let ds = c.args.digits.now in
     let i = c.loop-d.d-index in
-    let goes = digits_go ds i c.loop-d-test.true c.if-not-is-digit.ensures in
+    let goes = digits_go ds i c.loop-d-test.true c.if-not-is_digit.ensures in
     let more = read_more c.loop-d.n ds i c.loop-d-test.true in
     (c.if-n-gt-LARGEST.false, sym goes ∙ c.loop-d.invariant.1, sym more ∙ c.loop-d.invariant.2)
 

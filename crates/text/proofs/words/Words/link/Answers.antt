@@ -5,44 +5,44 @@ use Rattle.text.specs.Commands.{number_in, strength_in}
 use Rattle.text.proofs.Chains.{count_right, word_read, word_refused}
 use Rattle.text.proofs.words.Words.link.Goals as goal
 
-pub returns-in-err-number : goal.returns-in-err-number
-returns-in-err-number c =
+pub returns-in_err-number : goal.returns-in_err-number
+returns-in_err-number c =
     let w = reading_of c.args.self.now in
-    let b = c.from-residual-in-err-number in
+    let b = c.from_residual-in_err-number in
     let p = err_from_is_err_and b.result b.ensures.1 in
     rw (p.1, p.2)
-    (count_right w 5 c.in-ok-expect.ensures
-    (word_refused (number_in w.first) _ c.in-err-number.ensures))
+    (count_right w 5 c.in_ok-expect.ensures
+    (word_refused (number_in w.first) _ c.in_err-number.ensures))
 
-pub returns-in-err-source : goal.returns-in-err-source
-returns-in-err-source c =
+pub returns-in_err-source : goal.returns-in_err-source
+returns-in_err-source c =
     let w = reading_of c.args.self.now in
-    let b = c.from-residual-in-err-source in
+    let b = c.from_residual-in_err-source in
     let p = err_from_is_err_and b.result b.ensures.1 in
     rw (p.1, p.2)
-    (count_right w 5 c.in-ok-expect.ensures
-    (word_read (number_in w.first) _ c.in-ok-number.ensures
-    (word_refused (number_in w.second) _ c.in-err-source.ensures)))
+    (count_right w 5 c.in_ok-expect.ensures
+    (word_read (number_in w.first) _ c.in_ok-number.ensures
+    (word_refused (number_in w.second) _ c.in_err-source.ensures)))
 
-pub returns-in-err-target : goal.returns-in-err-target
-returns-in-err-target c =
+pub returns-in_err-target : goal.returns-in_err-target
+returns-in_err-target c =
     let w = reading_of c.args.self.now in
-    let b = c.from-residual-in-err-target in
+    let b = c.from_residual-in_err-target in
     let p = err_from_is_err_and b.result b.ensures.1 in
     rw (p.1, p.2)
-    (count_right w 5 c.in-ok-expect.ensures
-    (word_read (number_in w.first) _ c.in-ok-number.ensures
-    (word_read (number_in w.second) _ c.in-ok-source.ensures
-    (word_refused (number_in w.third) _ c.in-err-target.ensures))))
+    (count_right w 5 c.in_ok-expect.ensures
+    (word_read (number_in w.first) _ c.in_ok-number.ensures
+    (word_read (number_in w.second) _ c.in_ok-source.ensures
+    (word_refused (number_in w.third) _ c.in_err-target.ensures))))
 
-pub returns-in-err-strength : goal.returns-in-err-strength
-returns-in-err-strength c =
+pub returns-in_err-strength : goal.returns-in_err-strength
+returns-in_err-strength c =
     let w = reading_of c.args.self.now in
-    let b = c.from-residual-in-err-strength in
+    let b = c.from_residual-in_err-strength in
     let p = err_from_is_err_and b.result b.ensures.1 in
     rw (p.1, p.2)
-    (count_right w 5 c.in-ok-expect.ensures
-    (word_read (number_in w.first) _ c.in-ok-number.ensures
-    (word_read (number_in w.second) _ c.in-ok-source.ensures
-    (word_read (number_in w.third) _ c.in-ok-target.ensures
-    (word_refused (strength_in w.fourth) _ c.in-err-strength.ensures)))))
+    (count_right w 5 c.in_ok-expect.ensures
+    (word_read (number_in w.first) _ c.in_ok-number.ensures
+    (word_read (number_in w.second) _ c.in_ok-source.ensures
+    (word_read (number_in w.third) _ c.in_ok-target.ensures
+    (word_refused (strength_in w.fourth) _ c.in_err-strength.ensures)))))
