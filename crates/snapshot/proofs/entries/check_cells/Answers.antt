@@ -9,12 +9,12 @@ pub loop-i-init : goal.loop-i-init
 loop-i-init c = begins _
 
 pub loop-i-preserved : goal.loop-i-preserved
-loop-i-preserved c = goes_on _ _ _ c.loop-i.invariant c.in-ok-check-cell.ensures
+loop-i-preserved c = goes_on _ _ _ c.loop-i.invariant c.in_ok-check_cell.ensures
 
-pub returns-in-err-check-cell : goal.returns-in-err-check-cell
-returns-in-err-check-cell c =
-    let p = err_from_is_err_and c.from-residual.result c.from-residual.ensures.1 in
+pub returns-in_err-check_cell : goal.returns-in_err-check_cell
+returns-in_err-check_cell c =
+    let p = err_from_is_err_and c.from_residual.result c.from_residual.ensures.1 in
     rw (p.1, p.2)
     (stops (cell_entry_fault c.args.cells.now c.args.start)
-    c.loop-i.i (entries 8 c.args.cells.now) c.in-err-check-cell.field-0.0
-    c.loop-i.invariant c.in-err-check-cell.ensures (omega arith))
+    c.loop-i.i (entries 8 c.args.cells.now) c.in_err-check_cell.field-0.0
+    c.loop-i.invariant c.in_err-check_cell.ensures (omega arith))

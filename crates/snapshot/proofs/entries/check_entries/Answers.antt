@@ -4,29 +4,29 @@ use Rattle.snapshot.proofs.Firsts.{no_fault}
 use Rattle.snapshot.proofs.Order.{cells_sorted, roots_sorted, links_sorted}
 use Rattle.snapshot.proofs.entries.check_entries.Goals as goal
 
-pub check-roots-requires : goal.check-roots-requires
-check-roots-requires c = (
+pub check_roots-requires : goal.check_roots-requires
+check_roots-requires c = (
   omega arith,
-  cells_sorted _ _ (no_fault _ _ _ c.in-ok-check-cells.ensures),
+  cells_sorted _ _ (no_fault _ _ _ c.in_ok-check_cells.ensures),
 )
 
-pub check-links-requires : goal.check-links-requires
-check-links-requires c = (
+pub check_links-requires : goal.check_links-requires
+check_links-requires c = (
   omega arith,
   (
-    cells_sorted _ _ (no_fault _ _ _ c.in-ok-check-cells.ensures),
-    roots_sorted _ _ _ (no_fault _ _ _ c.in-ok-check-roots.ensures),
+    cells_sorted _ _ (no_fault _ _ _ c.in_ok-check_cells.ensures),
+    roots_sorted _ _ _ (no_fault _ _ _ c.in_ok-check_roots.ensures),
   ),
 )
 
-pub check-ephemerons-requires : goal.check-ephemerons-requires
-check-ephemerons-requires c = (
-  omega arith,
-  (
-    cells_sorted _ _ (no_fault _ _ _ c.in-ok-check-cells.ensures),
+pub check_ephemerons-requires : goal.check_ephemerons-requires
+check_ephemerons-requires c = record {
+  ephemerons_bound = omega arith;
+  sorted = (
+    cells_sorted _ _ (no_fault _ _ _ c.in_ok-check_cells.ensures),
     (
-      roots_sorted _ _ _ (no_fault _ _ _ c.in-ok-check-roots.ensures),
-      links_sorted _ _ _ _ (no_fault _ _ _ c.in-ok-check-links.ensures),
+      roots_sorted _ _ _ (no_fault _ _ _ c.in_ok-check_roots.ensures),
+      links_sorted _ _ _ _ (no_fault _ _ _ c.in_ok-check_links.ensures),
     ),
-  ),
-)
+  );
+}

@@ -9,13 +9,13 @@ pub loop-i-init : goal.loop-i-init
 loop-i-init c = begins _
 
 pub loop-i-preserved : goal.loop-i-preserved
-loop-i-preserved c = goes_on _ _ _ c.loop-i.invariant c.in-ok-check-ephemeron.ensures
+loop-i-preserved c = goes_on _ _ _ c.loop-i.invariant c.in_ok-check_ephemeron.ensures
 
-pub returns-in-err-check-ephemeron : goal.returns-in-err-check-ephemeron
-returns-in-err-check-ephemeron c =
-    let p = err_from_is_err_and c.from-residual.result c.from-residual.ensures.1 in
+pub returns-in_err-check_ephemeron : goal.returns-in_err-check_ephemeron
+returns-in_err-check_ephemeron c =
+    let p = err_from_is_err_and c.from_residual.result c.from_residual.ensures.1 in
     rw (p.1, p.2)
     (stops (ephemeron_entry_fault c.args.cells.now c.args.roots.now c.args.links.now
     c.args.ephemerons.now c.args.start)
-    c.loop-i.i (entries 8 c.args.ephemerons.now) c.in-err-check-ephemeron.field-0.0
-    c.loop-i.invariant c.in-err-check-ephemeron.ensures (omega arith))
+    c.loop-i.i (entries 8 c.args.ephemerons.now) c.in_err-check_ephemeron.field-0.0
+    c.loop-i.invariant c.in_err-check_ephemeron.ensures (omega arith))

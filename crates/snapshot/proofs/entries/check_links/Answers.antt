@@ -9,13 +9,13 @@ pub loop-i-init : goal.loop-i-init
 loop-i-init c = begins _
 
 pub loop-i-preserved : goal.loop-i-preserved
-loop-i-preserved c = goes_on _ _ _ c.loop-i.invariant c.in-ok-check-link.ensures
+loop-i-preserved c = goes_on _ _ _ c.loop-i.invariant c.in_ok-check_link.ensures
 
-pub returns-in-err-check-link : goal.returns-in-err-check-link
-returns-in-err-check-link c =
-    let p = err_from_is_err_and c.from-residual.result c.from-residual.ensures.1 in
+pub returns-in_err-check_link : goal.returns-in_err-check_link
+returns-in_err-check_link c =
+    let p = err_from_is_err_and c.from_residual.result c.from_residual.ensures.1 in
     rw (p.1, p.2)
     (stops (link_entry_fault c.args.cells.now c.args.roots.now c.args.links.now
     c.args.start)
-    c.loop-i.i (entries 8 c.args.links.now) c.in-err-check-link.field-0.0
-    c.loop-i.invariant c.in-err-check-link.ensures (omega arith))
+    c.loop-i.i (entries 8 c.args.links.now) c.in_err-check_link.field-0.0
+    c.loop-i.invariant c.in_err-check_link.ensures (omega arith))
