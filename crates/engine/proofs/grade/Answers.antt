@@ -6,9 +6,9 @@ use Rattle.engine.proofs.grade.Goals as goal
 within_room : (k n size : ℕ) → k ≤ n → n * size < 9223372036854775808 → k * size < 9223372036854775808
 within_room k n size l room = omega (arith, mul-le-mul_right {m = k} {n = n} size l)
 
-pub whole-as-slice·settle-all : goal.whole-as-slice·settle-all
-whole-as-slice·settle-all g c =
-    within_room 1024 (length c.args.rows.now) _ c.if-rows.false c.well-formed.1.1.0.1
+pub whole_as_slice-settle_all : goal.whole_as_slice-settle_all
+whole_as_slice-settle_all g c =
+    within_room 1024 (length c.args.rows.now) _ c.if-rows.false c.well_formed.1.1.0.1
 
 pub returns : goal.returns
 returns g c =
@@ -17,7 +17,7 @@ returns g c =
     let h = g.H.Heap.meaning c.args.heap.now in
     let wf = g.H.Heap.formed c.args.heap.now in
     let lent = c.args.rows.now in
-    let done = c.settle-all in
+    let done = c.settle_all in
     let enough : 1024 ≤ length lent = omega arith in
     record {
       answers = answers s law h wf lent done.new.rows enough done.ensures.after done.result

@@ -10,7 +10,7 @@ loop-i-init g c =
     let law = g.met.S.Scheme.lawful c.args.scheme.now in (
       omega (arith, c.requires.within),
       enters s law c.args.rows.now c.store.new.rows c.args.tree.now c.args.offer
-          c.waiting-row.result c.requires.wide c.requires.within c.requires.ranks c.waiting-row.ensures
+          c.waiting_row.result c.requires.wide c.requires.within c.requires.ranks c.waiting_row.ensures
           c.store.ensures c.requires.better,
     )
 
@@ -22,7 +22,7 @@ returns-then-not-overtakes g c =
     let o = c.args.offer in
     record {
       after = c.store.ensures
-          ∙ ap (λ (w : Row _). set c.args.rows.now o.cell (Some w)) c.waiting-row.ensures;
+          ∙ ap (λ (w : Row _). set c.args.rows.now o.cell (Some w)) c.waiting_row.ensures;
       ranks = goes_no_further s law c.store.new.rows at.tree at.i o c.at.result
           c.overtakes.result (omega arith) at.invariant.0 c.at.ensures c.overtakes.ensures
           at.invariant.1 (omega (arith, c.requires.ranks.wide)) c.if-not-overtakes.true;
@@ -47,7 +47,7 @@ returns g c =
     let o = c.args.offer in
     record {
       after = c.store.ensures
-          ∙ ap (λ (w : Row _). set c.args.rows.now o.cell (Some w)) c.waiting-row.ensures;
+          ∙ ap (λ (w : Row _). set c.args.rows.now o.cell (Some w)) c.waiting_row.ensures;
       ranks = record {
         wide = omega (arith, c.requires.ranks.wide);
         fair = fair_top s (held c.store.new.rows at.tree) at.i c.loop-i-test.false

@@ -4,8 +4,8 @@ use Rattle.engine.proofs.Loops.{start_run, turn_run, turn_stop, run_none}
 use Rattle.engine.proofs.Trees.{ranks_none}
 use Rattle.engine.proofs.turns.settle_all.Goals as goal
 
-pub weigh-roots-weighed-requires : goal.weigh-roots-weighed-requires
-weigh-roots-weighed-requires g c =
+pub weigh_roots-weighed-requires : goal.weigh_roots-weighed-requires
+weigh_roots-weighed-requires g c =
     let s = g.S.Scheme.model c.args.scheme.now in
     record {
       wide = omega arith;
@@ -16,15 +16,15 @@ pub loop-turn-init : goal.loop-turn-init
 loop-turn-init g c =
     let s = g.S.Scheme.model c.args.scheme.now in
     let h = g.H.Heap.meaning c.args.heap.now in
-    let looked = c.weigh-roots-weighed in (
+    let looked = c.weigh_roots-weighed in (
       looked.ensures.small,
       start_run s h 1024 1024 looked.result c.clear.new.rows looked.new.rows
           c.clear.ensures looked.ensures.after looked.ensures.counted,
       looked.ensures.ranks,
     )
 
-pub take-turn-requires : goal.take-turn-requires
-take-turn-requires g c = record {
+pub take_turn-requires : goal.take_turn-requires
+take_turn-requires g c = record {
   wide = omega (arith, c.requires.wide);
   ranks = c.loop-turn.invariant.2;
   chained = c.of-chains.ensures;
@@ -35,7 +35,7 @@ loop-turn-preserved g c =
     let s = g.S.Scheme.model c.args.scheme.now in
     let h = g.H.Heap.meaning c.args.heap.now in
     let at = c.loop-turn in
-    let took = c.take-turn in (
+    let took = c.take_turn in (
       omega (arith, took.ensures.small c.in-Some.count c.in-Some.is, at.invariant.0),
       turn_run s h at.rows took.new.rows at.turn at.weighed c.in-Some.count 1024
           took.result _ c.loop-turn-test.true
@@ -43,14 +43,14 @@ loop-turn-preserved g c =
       took.ensures.ranks,
     )
 
-pub returns-in-default : goal.returns-in-default
-returns-in-default g c =
+pub returns-in_default : goal.returns-in_default
+returns-in_default g c =
     let s = g.S.Scheme.model c.args.scheme.now in
     let h = g.H.Heap.meaning c.args.heap.now in
     let at = c.loop-turn in
-    let took = c.take-turn in
+    let took = c.take_turn in
     let p = turn_stop s h at.rows took.new.rows at.turn at.weighed _ took.result _
-    took.ensures.after took.ensures.counted c.in-default.is at.invariant.1 in
+    took.ensures.after took.ensures.counted c.in_default.is at.invariant.1 in
     record { after = p.0; turns = p.1; counted = p.2 }
 
 pub returns : goal.returns

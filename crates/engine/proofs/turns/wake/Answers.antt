@@ -3,21 +3,21 @@ use Rattle.chains.proofs.Seeking.{first_found, next_found}
 use Rattle.engine.proofs.Loops.{goes_up, stays, up_to_one, pass_all, tally_turn, tally_all}
 use Rattle.engine.proofs.Waking.{later, to_first, to_next, next_rows}
 use Rattle.engine.proofs.turns.wake.Goals as goal
-use Rattle.engine.proofs.turns.wake.Goals.{then-look-at, else-look-at}
+use Rattle.engine.proofs.turns.wake.Goals.{then-look_at, else-look_at}
 
 pub loop-place-init : goal.loop-place-init
 loop-place-init g c =
     let s = g.S.Scheme.model c.args.scheme.now in
     let h = g.H.Heap.meaning c.args.heap.now in
     let w = (g.H.Heap.formed c.args.heap.now).record_count in
-    let q = c.first-of-place.result in
+    let q = c.first_of-place.result in
     let f = first_found h c.args.cell c.args.chains.now c.requires.chained q c.requires.within
-    c.first-of-place.ensures in
+    c.first_of-place.ensures in
     let p = to_first s h c.args.cell q c.args.rows.now w f in
     (f.high, omega arith, f.own, sym p.0, omega (arith, p.1), c.requires.ranks)
 
-pub look-at-requires : goal.look-at-requires
-look-at-requires g c = record { wide = omega (arith, c.requires.wide); ranks = c.loop-place.invariant.5 }
+pub look_at-requires : goal.look_at-requires
+look_at-requires g c = record { wide = omega (arith, c.requires.wide); ranks = c.loop-place.invariant.5 }
 
 pub loop-place-smaller : goal.loop-place-smaller
 loop-place-smaller g c =
@@ -37,13 +37,13 @@ loop-place-preserved g c =
     let at = c.loop-place in
     let p = at.place in
     let q = c.after-place.result in
-    let looked = c.look-at in
+    let looked = c.look_at in
     let rows = looked.new.rows in
-    let k = c.if-look-at.count in
+    let k = c.if-look_at.count in
     let was = at.count in
-    let counted : k ≡ was + cond looked.result 1 0 = elim c.if-look-at.branch [
-      | then-look-at w ↦ goes_up looked.result was k w.if-look-at.true (omega (arith, w.count-is))
-      | else-look-at w ↦ stays looked.result was k w.if-look-at.false (omega (arith, w.count-is))
+    let counted : k ≡ was + cond looked.result 1 0 = elim c.if-look_at.branch [
+      | then-look_at w ↦ goes_up looked.result was k w.if-look_at.true (omega (arith, w.count-is))
+      | else-look_at w ↦ stays looked.result was k w.if-look_at.false (omega (arith, w.count-is))
     ] in
     let l : p < 8192 = omega arith in
     let own = at.invariant.2 l in

@@ -1,19 +1,19 @@
 use Rattle.std.proofs.Common.{◌≡◌, ◌+◌, cond, None, sym, ◌∙◌, arith}
 use Rattle.engine.proofs.Loops.{goes_up, stays, up_to_one, pass_more, pass_all, tally_turn, tally_all}
 use Rattle.engine.proofs.turns.weigh_roots.Goals as goal
-use Rattle.engine.proofs.turns.weigh_roots.Goals.{then-look-at, else-look-at}
+use Rattle.engine.proofs.turns.weigh_roots.Goals.{then-look_at, else-look_at}
 
-pub look-at-requires : goal.look-at-requires
-look-at-requires g c = record { wide = omega (arith, c.requires.wide); ranks = c.loop-number.invariant.3 }
+pub look_at-requires : goal.look_at-requires
+look_at-requires g c = record { wide = omega (arith, c.requires.wide); ranks = c.loop-number.invariant.3 }
 
-counted : (g : _) (c : goal.Joined-look-at g)
-    → c.if-look-at.roots ≡ c.loop-number.roots + cond c.look-at.result 1 0
+counted : (g : _) (c : goal.Joined-look_at g)
+    → c.if-look_at.roots ≡ c.loop-number.roots + cond c.look_at.result 1 0
 counted g c =
     let was = c.loop-number.roots in
-    let is = c.if-look-at.roots in
-    elim c.if-look-at.branch [
-      | then-look-at w ↦ goes_up c.look-at.result was is w.if-look-at.true (omega (arith, w.roots-is))
-      | else-look-at w ↦ stays c.look-at.result was is w.if-look-at.false (omega (arith, w.roots-is))
+    let is = c.if-look_at.roots in
+    elim c.if-look_at.branch [
+      | then-look_at w ↦ goes_up c.look_at.result was is w.if-look_at.true (omega (arith, w.roots-is))
+      | else-look_at w ↦ stays c.look_at.result was is w.if-look_at.false (omega (arith, w.roots-is))
     ]
 
 pub loop-number-preserved : goal.loop-number-preserved
@@ -22,12 +22,12 @@ loop-number-preserved g c =
     let h = g.H.Heap.meaning c.args.heap.now in
     let w = (g.H.Heap.formed c.args.heap.now).record_count in
     let at = c.loop-number in
-    let looked = c.look-at in
+    let looked = c.look_at in
     let e = pass_more s h None at.rows at.number (omega arith) in (
-      omega (arith, up_to_one looked.result at.roots c.if-look-at.roots (counted g c)),
+      omega (arith, up_to_one looked.result at.roots c.if-look_at.roots (counted g c)),
       cc (looked.ensures.after, at.invariant.1),
       tally_turn s h None at.rows looked.new.rows at.number at.roots
-          c.if-look-at.roots _ looked.result (omega arith)
+          c.if-look_at.roots _ looked.result (omega arith)
           looked.ensures.after looked.ensures.counted (counted g c) at.invariant.2,
       looked.ensures.ranks,
     )

@@ -4,6 +4,6 @@ use Rattle.engine.proofs.weigh.weigh.Goals as goal
 pub suggest-requires : goal.suggest-requires
 suggest-requires g c = record {
   wide = c.requires.wide;
-  within = omega (arith, c.target-of.ensures, c.requires.reaches, c.requires.wide);
+  within = omega (arith, c.target_of.ensures, c.requires.reaches, c.requires.wide);
   ranks = c.requires.ranks;
 }
