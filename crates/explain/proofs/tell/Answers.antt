@@ -7,10 +7,13 @@ pub walk-first-requires : goal.walk-first-requires
 walk-first-requires g c =
     let e = sym c.fetch-row.ensures ∙ c.in-Some.is in
     let timely = c.requires.1.0 in
-    ((c.requires.0, timely), (c.requires.1.1, (timely c.args.cell c.in-Some.row e, refl)))
+    record {
+      rows_len = (c.requires.0, timely);
+      cell_bound = (c.requires.1.1, (timely c.args.cell c.in-Some.row e, refl));
+    }
 
-pub returns-in-err-count : goal.returns-in-err-count
-returns-in-err-count g c =
+pub returns-in_err-count : goal.returns-in_err-count
+returns-in_err-count g c =
     let h = g.H.Heap.meaning c.args.heap.now in
     let rows = c.args.rows.now in
     let n = c.args.cell in
@@ -20,13 +23,13 @@ returns-in-err-count g c =
     let found = c.walk-first.new.found in
     let first = c.walk-first.result in
     let walked = c.walk-first.ensures.steps in
-    let p = err_from_is_err_and c.from-residual.result c.from-residual.ensures.1 in
+    let p = err_from_is_err_and c.from_residual.result c.from_residual.ensures.1 in
     record {
       answers = told_err h rows n steps row is found first (omega arith) walked
-          c.in-err-count.field-0.0 p.0 c.from-residual.result p.1 p.2
-          c.in-err-count.ensures.answers;
-      lists = listed_as h rows n steps row is found first (omega arith) walked c.hand-over.new.steps
-          c.hand-over.ensures.lists;
+          c.in_err-count.field-0.0 p.0 c.from_residual.result p.1 p.2
+          c.in_err-count.ensures.answers;
+      lists = listed_as h rows n steps row is found first (omega arith) walked c.hand_over.new.steps
+          c.hand_over.ensures.lists;
     }
 
 pub returns : goal.returns
@@ -41,8 +44,8 @@ returns g c =
     let first = c.walk-first.result in
     let walked = c.walk-first.ensures.steps in
     record {
-      answers = told_ok h rows n steps row is found first (omega arith) walked c.in-ok-count.count
-          c.in-ok-count.ensures.answers;
-      lists = listed_as h rows n steps row is found first (omega arith) walked c.hand-over.new.steps
-          c.hand-over.ensures.lists;
+      answers = told_ok h rows n steps row is found first (omega arith) walked c.in_ok-count.count
+          c.in_ok-count.ensures.answers;
+      lists = listed_as h rows n steps row is found first (omega arith) walked c.hand_over.new.steps
+          c.hand_over.ensures.lists;
     }

@@ -20,15 +20,15 @@ returns-then-cell g c =
       concerns = tt;
     }
 
-pub returns-in-err-grade : goal.returns-in-err-grade
-returns-in-err-grade g c =
+pub returns-in_err-grade : goal.returns-in_err-grade
+returns-in_err-grade g c =
     let s = g.S.Scheme.model c.args.scheme.now in
     let h = g.H.Heap.meaning c.args.heap.now in
-    let short = c.in-err-grade.ensures.answers in
+    let short = c.in_err-grade.ensures.answers in
     absurd (never_short c.args.rows.now c.if-rows.false s h _ short)
 
-pub slice-bounds-tell-end-2 : goal.slice-bounds-tell-end-2
-slice-bounds-tell-end-2 g c =
+pub slice_bounds-tell-end-2 : goal.slice_bounds-tell-end-2
+slice_bounds-tell-end-2 g c =
     let s = g.S.Scheme.model c.args.scheme.now in
     let law = g.met.S.Scheme.lawful c.args.scheme.now in
     let h = g.H.Heap.meaning c.args.heap.now in

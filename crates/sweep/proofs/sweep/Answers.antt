@@ -10,18 +10,18 @@ use Rattle.sweep.proofs.Sweeps.{keeps, grades, names_dropped, names_cleared}
 use Rattle.sweep.proofs.Sweeps.{refused, heap_stands, rows_stand, cells_stand, records_stand}
 use Rattle.sweep.proofs.sweep.Goals as goal
 
-pub returns-in-err-judge : goal.returns-in-err-judge
-returns-in-err-judge g c =
+pub returns-in_err-judge : goal.returns-in_err-judge
+returns-in_err-judge g c =
     let s = g.S.Scheme.model c.args.scheme.now in
     let h = meaning_of c.args.heap.now in
     let limit = c.args.limit in
     let lent = c.args.rows.now in
     let cells = c.args.cells.now in
     let records = c.args.records.now in
-    let early = a_fault (sweep_fault lent cells records) _ _ c.in-err-judge.ensures in
-    let err = c.from-residual.result in
-    let is_err = c.from-residual.ensures.0 in
-    let p = err_from_is_err_and err c.from-residual.ensures.1 in
+    let early = a_fault (sweep_fault lent cells records) _ _ c.in_err-judge.ensures in
+    let err = c.from_residual.result in
+    let is_err = c.from_residual.ensures.0 in
+    let p = err_from_is_err_and err c.from_residual.ensures.1 in
     record {
       answers = refused s h limit lent cells records _ early p.0 err p.1 p.2;
       leaves = heap_stands s h limit lent cells records _ early;
@@ -29,29 +29,29 @@ returns-in-err-judge g c =
       lists_cells = cells_stand s h limit lent cells records _ early;
       lists_records = records_stand s h limit lent cells records _ early;
       keeps_exactly = IfOk-from_err err _ is_err;
-      kept-cells-keep-their-grade = IfOk-from_err err _ is_err;
-      names-dropped-cells = IfOk-from_err err _ is_err;
-      names-cleared-records = IfOk-from_err err _ is_err;
+      kept_cells_keep_their_grade = IfOk-from_err err _ is_err;
+      names_dropped_cells = IfOk-from_err err _ is_err;
+      names_cleared_records = IfOk-from_err err _ is_err;
     }
 
-pub slice-bounds-mark-end : goal.slice-bounds-mark-end
-slice-bounds-mark-end g c =
+pub slice_bounds-mark-end : goal.slice_bounds-mark-end
+slice_bounds-mark-end g c =
     let lent = c.args.rows.now in
     let cells = c.args.cells.now in
     let records = c.args.records.now in
-    let fine = no_fault (sweep_fault lent cells records) _ _ c.in-ok-judge.ensures in
+    let fine = no_fault (sweep_fault lent cells records) _ _ c.in_ok-judge.ensures in
     let enough = enough_rows lent cells records fine in
     omega (arith, c.grade.auto.rows)
 
-pub slice-bounds-mark-end-2 : goal.slice-bounds-mark-end-2
-slice-bounds-mark-end-2 g c =
+pub slice_bounds-mark-end-2 : goal.slice_bounds-mark-end-2
+slice_bounds-mark-end-2 g c =
     let s = g.S.Scheme.model c.args.scheme.now in
     let law = g.met.S.Scheme.lawful c.args.scheme.now in
     let heap = c.args.heap.now in
     let lent = c.args.rows.now in
     let cells = c.args.cells.now in
     let records = c.args.records.now in
-    let fine = no_fault (sweep_fault lent cells records) _ _ c.in-ok-judge.ensures in
+    let fine = no_fault (sweep_fault lent cells records) _ _ c.in_ok-judge.ensures in
     let enough = enough_rows lent cells records fine in
     sym (front_wide s law (meaning_of heap) (formed_of heap) lent _ enough c.grade.ensures.fills)
 
@@ -63,23 +63,23 @@ mark-kept-requires g c =
     let lent = c.args.rows.now in
     let cells = c.args.cells.now in
     let records = c.args.records.now in
-    let fine = no_fault (sweep_fault lent cells records) _ _ c.in-ok-judge.ensures in
+    let fine = no_fault (sweep_fault lent cells records) _ _ c.in_ok-judge.ensures in
     let enough = enough_rows lent cells records fine in
     front_wide s law (meaning_of heap) (formed_of heap) lent _ enough c.grade.ensures.fills
 
-pub list-cells-dropped-requires : goal.list-cells-dropped-requires
-list-cells-dropped-requires g c =
+pub list_cells-dropped-requires : goal.list_cells-dropped-requires
+list_cells-dropped-requires g c =
     let lent = c.args.rows.now in
     let cells = c.args.cells.now in
     let records = c.args.records.now in
-    enough_cells lent cells records (no_fault _ _ _ c.in-ok-judge.ensures)
+    enough_cells lent cells records (no_fault _ _ _ c.in_ok-judge.ensures)
 
-pub list-records-cleared-requires : goal.list-records-cleared-requires
-list-records-cleared-requires g c =
+pub list_records-cleared-requires : goal.list_records-cleared-requires
+list_records-cleared-requires g c =
     let lent = c.args.rows.now in
     let cells = c.args.cells.now in
     let records = c.args.records.now in
-    enough_records lent cells records (no_fault _ _ _ c.in-ok-judge.ensures)
+    enough_records lent cells records (no_fault _ _ _ c.in_ok-judge.ensures)
 
 pub returns : goal.returns
 returns g c =
@@ -91,13 +91,13 @@ returns g c =
     let lent = c.args.rows.now in
     let cells = c.args.cells.now in
     let records = c.args.records.now in
-    let fine = no_fault (sweep_fault lent cells records) _ _ c.in-ok-judge.ensures in
+    let fine = no_fault (sweep_fault lent cells records) _ _ c.in_ok-judge.ensures in
     let after = c.grade.new.rows in
     let is = c.grade.ensures.fills in
     let flags = c.mark-kept.result in
     let marked = c.mark-kept.ensures in
-    let dropped = c.list-cells-dropped in
-    let cleared = c.list-records-cleared in
+    let dropped = c.list_cells-dropped in
+    let cleared = c.list_records-cleared in
     let left = c.retain.ensures in
     record {
       answers = answers s law h wf limit lent after cells records fine is flags marked dropped.result
@@ -109,10 +109,10 @@ returns g c =
       lists_records = lists_records s law h wf limit lent after cells records fine is flags marked _
           cleared.ensures.lists;
       keeps_exactly = keeps s law h wf limit lent after cells records fine is flags marked _ left;
-      kept-cells-keep-their-grade =
+      kept_cells_keep_their_grade =
           grades s law h wf limit lent after cells records fine is flags marked _ left;
-      names-dropped-cells = names_dropped s law h wf limit lent after cells records fine is flags marked _
+      names_dropped_cells = names_dropped s law h wf limit lent after cells records fine is flags marked _
           dropped.ensures.lists dropped.result dropped.ensures.counts;
-      names-cleared-records = names_cleared s law h wf limit lent after cells records fine is flags marked _
+      names_cleared_records = names_cleared s law h wf limit lent after cells records fine is flags marked _
           cleared.ensures.lists cleared.result cleared.ensures.counts;
     }

@@ -4,4 +4,4 @@ use Rattle.explain.proofs.order.place.Goals as goal
 pub bounds-order-row : goal.bounds-order-row
 bounds-order-row g c =
     let e = sym c.fetch-row.ensures ∙ c.in-Some.is in
-    omega (arith, c.requires.0.1 c.args.cell c.in-Some.row e)
+    omega (arith, c.requires.rows_len.1 c.args.cell c.in-Some.row e)

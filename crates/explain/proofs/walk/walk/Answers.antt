@@ -7,7 +7,7 @@ use Rattle.explain.proofs.walk.walk.Goals as goal
 pub loop-left-init : goal.loop-left-init
 loop-left-init g c =
     let h = g.H.Heap.meaning c.args.heap.now in
-    let order = c.by-turn-order in (
+    let order = c.by_turn-order in (
       length-set (replicate 1024 false) c.args.cell true ∙ length-replicate 1024 false,
       omega arith,
       omega arith,
@@ -20,10 +20,10 @@ loop-left-preserved g c =
     let h = g.H.Heap.meaning c.args.heap.now in
     let rows = c.args.rows.now in
     let at = c.loop-left in
-    let back = c.look-back-first in
+    let back = c.look_back-first in
     let marks = back.ensures.marks in
     let steps = back.ensures.steps in
-    let more = walk_more h rows c.by-turn-order.result at.left (at.left - 1) at.marks
+    let more = walk_more h rows c.by_turn-order.result at.left (at.left - 1) at.marks
     (drop at.first at.found) (omega arith) in
     let now = at.invariant.3 in (
       omega arith,
@@ -38,7 +38,7 @@ returns g c =
     let rows = c.args.rows.now in
     let at = c.loop-left in
     record {
-      steps = walk_end h rows c.by-turn-order.result at.left at.marks
+      steps = walk_end h rows c.by_turn-order.result at.left at.marks
           (drop at.first at.found)
           (steps_of h rows c.args.cell c.args.turn) (omega arith) at.invariant.3;
       within = at.invariant.2;

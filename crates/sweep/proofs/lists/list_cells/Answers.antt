@@ -2,7 +2,7 @@ use Rattle.std.proofs.Common.{◌<◌, ◌≤◌, length, arith}
 use Rattle.sweep.specs.Listing.{drops}
 use Rattle.sweep.proofs.Passes.{list_passed, list_noted, list_counts, list_over}
 use Rattle.sweep.proofs.lists.list_cells.Goals as goal
-use Rattle.sweep.proofs.lists.list_cells.Goals.{then-is-dropped, else-is-dropped}
+use Rattle.sweep.proofs.lists.list_cells.Goals.{then-is_dropped, else-is_dropped}
 
 pub loop-cell-preserved : goal.loop-cell-preserved
 loop-cell-preserved g c =
@@ -11,17 +11,17 @@ loop-cell-preserved g c =
     let pick = drops c.args.kept.now in
     let old = c.args.cells.now in
     let at = c.loop-cell in
-    let asked = c.is-dropped in
+    let asked = c.is_dropped in
     let i = at.cell in
     let here : i < length xs = omega arith in
     let room : i < length old = omega arith in
-    elim c.if-is-dropped.branch [
-      | then-is-dropped w ↦
+    elim c.if-is_dropped.branch [
+      | then-is_dropped w ↦
           list_noted pick xs old i at.count _ at.cells _ asked.result here room at.invariant
-          asked.ensures w.if-is-dropped.true w.count-is w.cells-is
-      | else-is-dropped w ↦
+          asked.ensures w.if-is_dropped.true w.count-is w.cells-is
+      | else-is_dropped w ↦
           list_passed pick xs old i at.count _ at.cells _ asked.result here room at.invariant
-          asked.ensures w.if-is-dropped.false w.count-is w.cells-is
+          asked.ensures w.if-is_dropped.false w.count-is w.cells-is
     ]
 
 pub returns : goal.returns

@@ -9,10 +9,10 @@ loop-cell-preserved g c =
     let s = g.S.Scheme.model c.args.scheme.now in
     let at = c.loop-cell in
     let row = c.fetch.result in
-    let flag = c.is-within.result in (
+    let flag = c.is_within.result in (
       length-set at.kept at.cell flag ∙ at.invariant.0,
       mark_more (within s c.args.limit) c.args.rows.now at.kept at.cell row _ flag
-          (omega arith) (omega arith) c.fetch.ensures c.is-within.ensures at.invariant.1,
+          (omega arith) (omega arith) c.fetch.ensures c.is_within.ensures at.invariant.1,
     )
 
 pub returns : goal.returns
