@@ -4,29 +4,29 @@ use Rattle.text.proofs.Spelling.{and_then, as_text, full_then, full_front, full_
 use Rattle.script.proofs.Obeying.{outcome_printed}
 use Rattle.script.proofs.line.answer.Goals as goal
 
-pub returns-in-err-print-outcome : goal.returns-in-err-print-outcome
-returns-in-err-print-outcome c =
+pub returns-in_err-print_outcome : goal.returns-in_err-print_outcome
+returns-in_err-print_outcome c =
     let e = outcome_printed
     (meaning_of c.args.heap.now) (meaning_of c.obey-outcome.new.heap) c.args.line.now
     c.obey-outcome.result c.obey-outcome.ensures.answers c.obey-outcome.ensures.leaves in
     record {
       writes =
-          failed c.from-residual.result _ c.from-residual.ensures.0
-          (full_front (10 ∷ []) (full_as e c.in-err-print-outcome.ensures));
+          failed c.from_residual.result _ c.from_residual.ensures.0
+          (full_front (10 ∷ []) (full_as e c.in_err-print_outcome.ensures));
       leaves = c.obey-outcome.ensures.leaves;
     }
 
-pub returns-in-err-write-byte : goal.returns-in-err-write-byte
-returns-in-err-write-byte c =
+pub returns-in_err-write_byte : goal.returns-in_err-write_byte
+returns-in_err-write_byte c =
     let e = outcome_printed
     (meaning_of c.args.heap.now) (meaning_of c.obey-outcome.new.heap) c.args.line.now
     c.obey-outcome.result c.obey-outcome.ensures.answers c.obey-outcome.ensures.leaves in
     record {
       writes =
-          failed c.from-residual-in-err-write-byte.result _
-          c.from-residual-in-err-write-byte.ensures.0
-          (full_then (as_text e c.in-ok-print-outcome.ensures)
-          c.in-err-write-byte.ensures);
+          failed c.from_residual-in_err-write_byte.result _
+          c.from_residual-in_err-write_byte.ensures.0
+          (full_then (as_text e c.in_ok-print_outcome.ensures)
+          c.in_err-write_byte.ensures);
       leaves = c.obey-outcome.ensures.leaves;
     }
 
@@ -36,7 +36,7 @@ returns c =
     (meaning_of c.args.heap.now) (meaning_of c.obey-outcome.new.heap) c.args.line.now
     c.obey-outcome.result c.obey-outcome.ensures.answers c.obey-outcome.ensures.leaves in
     record {
-      writes = and_then (as_text e c.in-ok-print-outcome.ensures)
-          c.in-ok-write-byte.ensures;
+      writes = and_then (as_text e c.in_ok-print_outcome.ensures)
+          c.in_ok-write_byte.ensures;
       leaves = c.obey-outcome.ensures.leaves;
     }

@@ -8,7 +8,7 @@ returns-in-Ok g c =
     let law = g.met.S.Scheme.lawful c.args.scheme.now in
     let h = g.H.Heap.meaning c.args.heap.now in
     let wf = g.H.Heap.formed c.args.heap.now in
-    let e = grading_printed g.Grade.Shown.text s law h wf c.args.rows.now c.grade.new.rows
-    c.first-rows.result.now c.in-Ok.counts
-    c.in-Ok.ensures.answers c.grade.ensures.fills c.first-rows.ensures in
-    writes_as c.print-graded.result _ _ e c.print-graded.ensures
+    let e = grading_printed g.S.Grade.Shown.text s law h wf c.args.rows.now c.grade.new.rows
+    c.first_rows.result.now c.in-Ok.counts
+    c.in-Ok.ensures.answers c.grade.ensures.fills c.first_rows.ensures in
+    writes_as c.print_graded.result _ _ e c.print_graded.ensures

@@ -9,15 +9,15 @@ pub loop-cell-preserved : goal.loop-cell-preserved
 loop-cell-preserved g c =
     row_more g.G.Shown.text c.args.rows.now c.loop-cell.cell c.loop-cell-test.true
     c.index-rows-cell.result c.index-rows-cell.is c.loop-cell.invariant
-    c.in-ok-print-row.ensures
+    c.in_ok-print_row.ensures
 
 pub returns : goal.returns
 returns g c = rows_all g.G.Shown.text c.args.rows.now c.loop-cell.cell
     c.loop-cell-test.false c.loop-cell.invariant
 
-pub returns-in-err-print-row : goal.returns-in-err-print-row
-returns-in-err-print-row g c =
-    failed c.from-residual.result _ c.from-residual.ensures.0
+pub returns-in_err-print_row : goal.returns-in_err-print_row
+returns-in_err-print_row g c =
+    failed c.from_residual.result _ c.from_residual.ensures.0
     (row_full g.G.Shown.text c.args.rows.now c.loop-cell.cell c.loop-cell-test.true
     c.index-rows-cell.result c.index-rows-cell.is c.loop-cell.invariant
-    c.in-err-print-row.ensures)
+    c.in_err-print_row.ensures)
