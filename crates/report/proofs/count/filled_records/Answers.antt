@@ -2,7 +2,7 @@ use Rattle.std.proofs.Common.{◌≡◌, ◌<◌, ◌≤◌, length, is_some, sy
 use Rattle.report.specs.Count.{count_filled}
 use Rattle.report.proofs.Counting.{count_one, count_no, count_all}
 use Rattle.report.proofs.count.filled_records.Goals as goal
-use Rattle.report.proofs.count.filled_records.Goals.{then-is-some, else-is-some}
+use Rattle.report.proofs.count.filled_records.Goals.{then-is_some, else-is_some}
 
 pub loop-n-init : goal.loop-n-init
 unfolding count_filled
@@ -13,17 +13,17 @@ loop-n-preserved g c =
     let xs = (g.H.Heap.meaning c.args.heap.now).records in
     let k = (g.H.Heap.formed c.args.heap.now).record_count in
     let l : c.loop-n.n < length xs = omega arith in
-    let f = c.is-some.ensures ∙ ap is_some c.record.ensures in
-    elim c.if-is-some.branch [
-      | then-is-some w ↦ (
+    let f = c.is_some.ensures ∙ ap is_some c.record.ensures in
+    elim c.if-is_some.branch [
+      | then-is_some w ↦ (
         omega arith,
         w.count-is ∙ count_one xs c.loop-n.n c.loop-n.count l c.loop-n.invariant.1 (sym
-            w.if-is-some.true ∙ f),
+            w.if-is_some.true ∙ f),
       )
-      | else-is-some w ↦ (
+      | else-is_some w ↦ (
         omega arith,
         w.count-is ∙ count_no xs c.loop-n.n c.loop-n.count l c.loop-n.invariant.1 (sym
-            w.if-is-some.false ∙ f),
+            w.if-is_some.false ∙ f),
       )
     ]
 

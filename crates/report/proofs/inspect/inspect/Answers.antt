@@ -10,10 +10,10 @@ returns-in-Ok c =
     (meaning_of c.open.new.self) (laid_down c.args.bytes.now) (meaning_of
     c.empty-snapshot.result)
     c.in-Ok.ensures.answers c.open.ensures.leaves in
-    writes_as c.print-heap.result _ _ e c.print-heap.ensures
+    writes_as c.print_heap.result _ _ e c.print_heap.ensures
 
 pub returns-in-Err : goal.returns-in-Err
 returns-in-Err c =
     let e = refusal_shown (file_fault c.args.bytes.now) c.args.wanted c.in-Err.fault
     (laid_down c.args.bytes.now) c.in-Err.ensures.answers in
-    writes_as c.print-file-refusal.result _ _ e c.print-file-refusal.ensures
+    writes_as c.print_file_refusal.result _ _ e c.print_file_refusal.ensures
