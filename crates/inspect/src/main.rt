@@ -4,6 +4,7 @@
 use anyhow::anyhow;
 use report::inspect::{Wanted, inspect};
 use std::io::Write;
+use std::process::ExitCode;
 use std::{env, fs};
 use text::command::SchemeName;
 use text::number::value;
@@ -56,12 +57,12 @@ fn run(rt: &HostRuntime) -> anyhow::Result<()> {
     Ok(())
 }
 
-fn main(rt: HostRuntime) -> anyhow::Result<()> {
+fn main(rt: HostRuntime) -> ExitCode {
     match run(&rt) {
-        Ok(()) => Ok(()),
+        Ok(()) => ExitCode::SUCCESS,
         Err(e) => {
-            eprintln!(rt; "inspect: {e}")?;
-            Err(e)
+            let _ = eprintln!(rt; "inspect: {e}");
+            ExitCode::FAILURE
         }
     }
 }
