@@ -1,8 +1,7 @@
 -- What `grade` promises of its answer and of the rows that it leaves.
-use Rattle.std.proofs.Common.{◌≡◌, ℕ, ◌<◌, ◌≤◌, ◌++◌, length, get_or, take, drop, Some, None, Ok, Option, sym, refl, ap, ◌∙◌, subst, arith}
+use Rattle.std.proofs.Common.{◌≡◌, ℕ, ◌<◌, ◌≤◌, ◌++◌, length, get_or, take, drop, None, Ok, sym, ap, ◌∙◌, subst, arith}
 use Rattle.std.proofs.lemmas.List.{get_or_append_left, take_at}
 use Rattle.model.specs.declared.row.Counts.{Counts}
-use Rattle.model.specs.declared.row.Row.{Row}
 use Rattle.model.specs.Schemes.{Scheme, Lawful}
 use Rattle.model.specs.Meaning.{Meaning, WellFormed}
 use Rattle.model.specs.Settling.{Rows, graded, weighed}

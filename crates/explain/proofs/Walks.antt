@@ -1,6 +1,6 @@
 -- What one turn of each loop does, and what is left when it ends.
 use Rattle.std.proofs.Common.{◌≡◌, ℕ, zero, suc, ◌+◌, ◌<◌, ◌≤◌, Bool, true, false, cond, List, [], ◌∷◌, ◌++◌, length, get_or, drop, set, replicate, Some, None, Option, sym, refl, ap, ◌∙◌, append_assoc, append-nil, add-one, arith}
-use Rattle.std.proofs.lemmas.List.{at_drop_more, at_drop_all, drop_all, drop-set, length-set}
+use Rattle.std.proofs.lemmas.List.{at_drop_more, at_drop_all, drop_all, drop-set}
 use Rattle.model.specs.declared.record.Record.TheVariants.{Link, Ephemeron}
 use Rattle.model.specs.declared.record.Strength.{Strength}
 use Rattle.model.specs.declared.row.Row.{Row}

@@ -13,7 +13,7 @@ use Rattle.model.specs.Settling.{Rows, target, given}
 use Rattle.model.specs.Grading.{Settled, SettledBefore, SourcesBefore, Numbered, AllBacked}
 use Rattle.model.specs.Explaining.{sources, sources_of, holder_of, marked, placed, in_order}
 use Rattle.model.specs.Explaining.{cells_by_turn, explain, steps_of}
-use Rattle.model.specs.Explaining.{listed, Among, Step, Unfolds}
+use Rattle.model.specs.Explaining.{Among, Step, Unfolds}
 use Rattle.model.proofs.Filled.{none_some, some_same}
 use Rattle.laws.specs.Order.{Timely}
 

@@ -1,5 +1,5 @@
 -- What an answer tells of the fault that it was made of.
-use Rattle.std.proofs.Common.{◌≡◌, Some, None, Ok, Err, Option, Result, refl}
+use Rattle.std.proofs.Common.{◌≡◌, Some, None, Ok, Err, Option, refl}
 use Rattle.model.specs.declared.fault.Fault.{Fault}
 use Rattle.model.specs.Faults.{answer}
 

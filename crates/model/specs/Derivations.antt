@@ -1,5 +1,5 @@
 -- Derivations: the ways of reaching a cell, and the best of them.
-use Rattle.std.specs.Prelude.{◌≡◌, ℕ, Some, None, Option}
+use Rattle.std.specs.Prelude.{◌≡◌, ℕ, Some}
 use Rattle.model.specs.declared.record.Record.TheVariants.{Root, Link, Ephemeron}
 use Rattle.model.specs.declared.record.Strength.{Strength}
 use Rattle.model.specs.Schemes.{Scheme, NoWorse}

@@ -1,7 +1,7 @@
 -- Why a cell survives: the records that hold it up, and what `why` answers and leaves.
 -- The cells concerned are the cell itself and, repeatedly, the sources of the records that hold
 -- cells concerned. The steps are the holders of these cells, in order of turn.
-use Rattle.std.specs.Prelude.{◌≡◌, ℕ, zero, suc, ◌+◌, ◌<◌, Bool, true, false, cond, ◌⊎◌, List, [], ◌∷◌, ◌++◌, length, get_or, drop, replicate, Some, None, Ok, Err, Option, Result, nat_le, slice_index_or, slice_set}
+use Rattle.std.specs.Prelude.{◌≡◌, ℕ, zero, suc, ◌+◌, Bool, true, false, cond, ◌⊎◌, List, [], ◌∷◌, ◌++◌, length, get_or, drop, replicate, Some, None, Err, Option, Result, nat_le, slice_index_or, slice_set}
 use Rattle.model.specs.declared.fault.Fault.{Fault}
 use Rattle.model.specs.declared.fault.Cause.TheVariants.{StepsShort, NotSettled}
 use Rattle.model.specs.declared.record.Record.{Record}

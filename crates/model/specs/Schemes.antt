@@ -1,5 +1,5 @@
 -- What a scheme of grades is, and the laws that make it lawful.
-use Rattle.std.specs.Prelude.{◌≡◌, ℕ, ◌<◌, ◌≤◌, Bool, true, false, cond, eqb, ltb}
+use Rattle.std.specs.Prelude.{◌≡◌, ℕ, ◌<◌, ◌≤◌, Bool, true, false}
 use Rattle.model.specs.declared.record.Strength.{Strength}
 use Rattle.model.specs.declared.scheme.Rank.{Rank}
 use Rattle.model.specs.declared.scheme.Rank.TheVariants.{Before, Same, After}

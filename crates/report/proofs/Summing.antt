@@ -1,5 +1,5 @@
 -- The text of a summary, from what is counted.
-use Rattle.std.proofs.Common.{◌≡◌, ℕ, List, [], ◌∷◌, ◌++◌, codes, decimal}
+use Rattle.std.proofs.Common.{◌≡◌, ℕ, [], ◌∷◌, ◌++◌, codes, decimal}
 use Rattle.model.specs.Meaning.{Meaning}
 use Rattle.report.specs.Count.{count_filled}
 use Rattle.report.specs.Inspect.{summary_text}

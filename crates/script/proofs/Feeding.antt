@@ -1,5 +1,5 @@
 -- Fed byte by byte, a script prints the answers to its lines.
-use Rattle.std.proofs.Common.{◌≡◌, ℕ, suc, ◌+◌, ◌<◌, ◌≤◌, Bool, true, false, cond, eqb, ltb, List, [], ◌∷◌, ◌++◌, length, take, set, Result, sym, refl, ap, ◌∙◌, subst, ap₂, inl, inr, append_assoc, append-nil, add-one, arith, length-append, length-take, take-suc-set, le-ltb, lt-ltb, eq-eqb, ne_eqb}
+use Rattle.std.proofs.Common.{◌≡◌, ℕ, ◌+◌, ◌<◌, Bool, true, false, cond, eqb, List, [], ◌∷◌, ◌++◌, length, take, set, Result, sym, refl, ap, ◌∙◌, ap₂, inl, inr, append_assoc, append-nil, add-one, arith, length-append, length-take, take-suc-set, le-ltb, lt-ltb, eq-eqb, ne_eqb}
 use lib.Seq.{take-append-le}
 use Rattle.std.proofs.lemmas.List.{take_all}
 use Rattle.std.proofs.lemmas.Bool.{cases_lt}
@@ -9,7 +9,7 @@ use Rattle.text.specs.declared.refusal.Refusal.{Refusal}
 use Rattle.text.specs.Words.{Reading}
 use Rattle.text.specs.Commands.{words_in, command_in, then}
 use Rattle.script.specs.Lines.{obeyed, heap_after, answer_line, after_if, outcome_text, placed, fault_of}
-use Rattle.script.specs.Scripts.{State, lines_of, onto_first, answers, output, kept, with_byte, after_byte, byte_prints, end_prints, line_ended, line_answer, AnswersEachLine}
+use Rattle.script.specs.Scripts.{State, lines_of, onto_first, answers, output, kept, with_byte, end_prints, line_ended, line_answer, AnswersEachLine}
 use Rattle.model.specs.Faults.{answer}
 
 -- the first 81 bytes say as much as the whole line

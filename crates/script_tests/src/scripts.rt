@@ -56,11 +56,11 @@ fn a_long_line_is_refused_once(rt: HostRuntime) -> Result<(), Fail> {
     }
     assert!(rt; out.is_empty());
     script.take(b'\n', &mut out)?;
-    assert_eq!(rt; &out[..], b"no t 30 80\n");
+    assert_eq!(rt; &out[..], b"no t 30 80\n".as_slice());
     out.clear();
     for byte in b"c 0 5\n" {
         script.take(*byte, &mut out)?;
     }
-    assert_eq!(rt; &out[..], b"ok\n");
+    assert_eq!(rt; &out[..], b"ok\n".as_slice());
     Ok(())
 }

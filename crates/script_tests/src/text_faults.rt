@@ -118,6 +118,6 @@ fn bytes_above_127_are_no_letters_or_digits(rt: HostRuntime) -> Result<(), Fail>
     answer(&mut heap, b"\xe3 0 1", &mut out)?;
     answer(&mut heap, b"c \xb0 1", &mut out)?;
     answer(&mut heap, b"g \xf3", &mut out)?;
-    assert_eq!(rt; &out[..], b"no t 31 0\nno t 33 2\nno t 33 2\n");
+    assert_eq!(rt; &out[..], b"no t 31 0\nno t 33 2\nno t 33 2\n".as_slice());
     Ok(())
 }

@@ -1,8 +1,7 @@
 -- Two files without fault that show one heap are one file.
-use Rattle.std.proofs.Common.{◌≡◌, ℕ, zero, suc, ◌+◌, ◌-◌, ◌*◌, ◌/◌, ◌%◌, ◌<◌, ◌≤◌, true, ◌&&◌, eqb, List, length, get_or, drop, Some, None, Option, sym, refl, ap, ◌∙◌, subst, inl, inr, arith}
+use Rattle.std.proofs.Common.{◌≡◌, ℕ, zero, suc, ◌+◌, ◌-◌, ◌*◌, ◌/◌, ◌%◌, ◌<◌, ◌≤◌, true, eqb, List, length, get_or, drop, None, Option, sym, ap, ◌∙◌, inl, inr, arith}
 use Rattle.std.proofs.lemmas.List.{ext_get_or, get_or-drop}
 use Rattle.std.proofs.lemmas.Bool.{cases_lt, cases_eq, eqb-true}
-use Rattle.model.specs.declared.record.Record.{Record}
 use Rattle.model.specs.declared.fault.Cause.TheVariants.{SectionLength}
 use Rattle.model.specs.Faults.{fault, unless, first}
 use Rattle.model.specs.Meaning.{Meaning}
@@ -11,7 +10,7 @@ use Rattle.snapshot.specs.declared.header.Layout.{Layout}
 use Rattle.snapshot.specs.Numbers.{u16_at, u32_at}
 use Rattle.snapshot.specs.Header.{layout_of, end, section, lead, lengths_fault, header_fault}
 use Rattle.snapshot.specs.Entries.{entries_fault}
-use Rattle.snapshot.specs.Laid.{cell_in, record_in, table, laid, laid_down, file_fault}
+use Rattle.snapshot.specs.Laid.{cell_in, record_in, table, laid_down, file_fault}
 use Rattle.snapshot.specs.Alone.{Bytes}
 use Rattle.snapshot.proofs.Firsts.{first_none}
 use Rattle.snapshot.proofs.Order.{unless_none}

@@ -1,10 +1,10 @@
 -- From what the parts of a file are found to be to what the file is.
-use Rattle.std.proofs.Common.{◌≡◌, ℕ, ◌+◌, ◌≤◌, true, ◌&&◌, eqb, leb, List, [], length, take, drop, replicate, Some, None, Ok, Err, Option, sym, refl, ap, ◌∙◌, arith, length-drop, length-take}
+use Rattle.std.proofs.Common.{◌≡◌, ℕ, ◌+◌, ◌≤◌, true, ◌&&◌, eqb, leb, List, [], length, replicate, Some, None, Ok, Option, sym, refl, ap, ◌∙◌, arith, length-drop, length-take}
 use Rattle.std.proofs.lemmas.Bool.{and_parts, leb-true, eqb-true}
 use Rattle.model.specs.declared.fault.Fault.{Fault}
 use Rattle.model.specs.declared.fault.Cause.TheVariants.{FileLength, LeadBytes, SectionPlace}
 use Rattle.model.specs.Faults.{fault, unless, first, answer}
-use Rattle.model.specs.Meaning.{Meaning, heap_of}
+use Rattle.model.specs.Meaning.{heap_of}
 use Rattle.model.specs.Calls.{empty_heap}
 use Rattle.snapshot.specs.declared.header.Pair.{Pair}
 use Rattle.snapshot.specs.declared.header.Layout.{Layout}

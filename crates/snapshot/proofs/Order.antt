@@ -1,12 +1,12 @@
 -- Sections without fault are sorted.
-use Rattle.std.proofs.Common.{◌≡◌, ℕ, suc, ◌+◌, ◌*◌, ◌<◌, Bool, true, false, not, ◌&&◌, List, Some, None, Option, refl}
+use Rattle.std.proofs.Common.{◌≡◌, ℕ, suc, ◌+◌, ◌*◌, ◌<◌, Bool, true, false, not, ◌&&◌, List, None, refl}
 use Rattle.std.proofs.lemmas.Bool.{ltb-true}
 use Rattle.model.specs.declared.fault.Fault.{Fault}
 use Rattle.model.specs.declared.fault.Cause.TheVariants.{FieldRange, NumberOrder, RecordTwice, CellMissing}
 use Rattle.model.specs.Faults.{fault, unless, first}
 use Rattle.snapshot.specs.Numbers.{u32_at}
 use Rattle.snapshot.specs.Sections.{field, number, entries, rises, has, Rising, Sorted}
-use Rattle.snapshot.specs.Entries.{judged, cell_fits, root_fits, link_fits, ephemeron_fits, first_of}
+use Rattle.snapshot.specs.Entries.{judged, cell_fits, root_fits, link_fits, ephemeron_fits}
 use Rattle.snapshot.specs.Entries.{cell_entry_fault, root_entry_fault}
 use Rattle.snapshot.specs.Entries.{link_entry_fault, ephemeron_entry_fault}
 use Rattle.snapshot.specs.Entries.{cells_fault, roots_fault, links_fault, ephemerons_fault}

@@ -1,5 +1,5 @@
 -- Files that show one heap have the same sections.
-use Rattle.std.proofs.Common.{◌≡◌, ℕ, zero, suc, ◌+◌, ◌*◌, ◌%◌, ◌<◌, Bool, true, false, not, ◌&&◌, eqb, ltb, List, length, is_some, Some, None, Option, sym, refl, ap, ◌∙◌, arith}
+use Rattle.std.proofs.Common.{◌≡◌, ℕ, zero, suc, ◌+◌, ◌*◌, ◌%◌, ◌<◌, true, not, ◌&&◌, eqb, ltb, List, length, is_some, Some, None, Option, sym, refl, ap, ◌∙◌, arith}
 use Rattle.std.proofs.lemmas.Bool.{and_parts, ltb-true, eqb-true}
 use Rattle.model.specs.declared.record.Record.{Record}
 use Rattle.model.specs.declared.record.Record.TheVariants.{Root, Link, Ephemeron}
@@ -10,14 +10,14 @@ use Rattle.snapshot.specs.Numbers.{u16_at, u32_at}
 use Rattle.snapshot.specs.Sections.{field, number, entries, found, has, Sorted}
 use Rattle.snapshot.specs.Entries.{cells_fault, roots_fault, links_fault, ephemerons_fault}
 use Rattle.snapshot.specs.Laid.{size_of, root_of, link_of, ephemeron_of, cell_in}
-use Rattle.snapshot.specs.Laid.{root_in, link_in, ephemeron_in, or_else, record_in}
+use Rattle.snapshot.specs.Laid.{link_in, ephemeron_in, or_else, record_in}
 use Rattle.snapshot.specs.Alone.{Bytes}
 use Rattle.snapshot.proofs.Halving.{which_at, rising_past}
-use Rattle.snapshot.proofs.Order.{Passed, cell_passed, root_passed, link_passed, ephemeron_passed}
+use Rattle.snapshot.proofs.Order.{cell_passed, root_passed, link_passed, ephemeron_passed}
 use Rattle.snapshot.proofs.Order.{cells_sorted, roots_sorted, links_sorted, ephemerons_sorted}
 use Rattle.snapshot.proofs.Shown.{four}
 use Rattle.snapshot.proofs.Halves.{u32_halves, same_eights, same_fours}
-use Rattle.snapshot.proofs.Alike.{Into, shown_entry, Alike, alike}
+use Rattle.snapshot.proofs.Alike.{Into, shown_entry, alike}
 
 -- an entry's number finds it
 here : (w : ℕ) (s : List ℕ) → Sorted w s → (k : ℕ) → k < entries w s → found w s (number w s k) ≡ Some k

@@ -1,5 +1,5 @@
 -- Where the entries of a section lie.
-use Rattle.std.proofs.Common.{◌≡◌, ℕ, suc, ◌+◌, ◌*◌, ◌/◌, ◌<◌, ◌≤◌, le_refl, mul_comm, mul-one, mul-add, arith}
+use Rattle.std.proofs.Common.{◌≡◌, ℕ, ◌+◌, ◌*◌, ◌/◌, ◌<◌, ◌≤◌, mul_comm, mul-one, mul-add, arith}
 use Rattle.std.proofs.lemmas.Nat.{div-add-mod', mul-le}
 
 pub entry_within : (n w i : ℕ) → i < n / w → w * i + w ≤ n

@@ -1,5 +1,5 @@
 -- What a file without fault shows: sizes in range, and records that name only cells of the file.
-use Rattle.std.proofs.Common.{◌≡◌, ℕ, ◌+◌, ◌*◌, ◌<◌, ◌≤◌, Bool, true, false, ◌&&◌, eqb, ltb, List, is_some, Some, None, Option, refl, ap, ◌∙◌}
+use Rattle.std.proofs.Common.{◌≡◌, ℕ, ◌+◌, ◌*◌, Bool, true, ◌&&◌, eqb, ltb, List, is_some, Some, None, Option, refl, ap, ◌∙◌}
 use Rattle.std.proofs.lemmas.Bool.{and_parts, and_from, ltb-true}
 use Rattle.model.specs.declared.record.Record.{Record}
 use Rattle.model.specs.Meaning.{size_fits, filled_in, names_filled, SizesFit, NamesFilled}
@@ -8,7 +8,7 @@ use Rattle.snapshot.specs.Sections.{field, number, entries, found, has}
 use Rattle.snapshot.specs.Entries.{cells_fault, roots_fault, links_fault, ephemerons_fault}
 use Rattle.snapshot.specs.Laid.{size_of, root_of, link_of, ephemeron_of, cell_in, root_in}
 use Rattle.snapshot.specs.Laid.{link_in, ephemeron_in, or_else, record_in, cell_list, record_list}
-use Rattle.snapshot.proofs.Order.{Passed, cell_passed, root_passed, link_passed, ephemeron_passed}
+use Rattle.snapshot.proofs.Order.{cell_passed, root_passed, link_passed, ephemeron_passed}
 use Rattle.snapshot.proofs.Tables.{table_at, table_all, which_all, or_else_all}
 
 pub sizes_shown : (cs : List ℕ) (i : ℕ) → cells_fault cs i ≡ None → SizesFit (cell_list cs)

@@ -1,5 +1,5 @@
 -- Commands: which words make one, and the first fault of a line that makes none.
-use Rattle.std.specs.Prelude.{ℕ, Bool, cond, List, length, Some, None, Ok, Err, Option, Result, ◌==◌, nat_lt}
+use Rattle.std.specs.Prelude.{ℕ, cond, List, length, Some, None, Ok, Err, Option, Result, ◌==◌, nat_lt}
 use Rattle.model.specs.declared.fault.Cause.{Cause}
 use Rattle.model.specs.declared.fault.Cause.TheVariants.{LineLong, NoCommand, WordCount, BadWord}
 use Rattle.model.specs.Faults.{fault}

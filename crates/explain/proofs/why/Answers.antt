@@ -1,4 +1,4 @@
-use Rattle.std.proofs.Common.{◌≡◌, ◌<◌, ◌≤◌, length, sym, arith}
+use Rattle.std.proofs.Common.{sym}
 use Rattle.engine.proofs.Front.{never_short, front_wide}
 use Rattle.explain.proofs.Tells.{cell_refused, front_timely}
 use Rattle.explain.proofs.Tells.{answers, fills, lists, unfolds, concerns, refused, rows_stand, steps_stand}

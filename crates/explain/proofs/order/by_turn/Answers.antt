@@ -1,4 +1,4 @@
-use Rattle.std.proofs.Common.{◌≡◌, length, get_or, None, sym, refl, ◌∙◌, subst, arith}
+use Rattle.std.proofs.Common.{get_or, None, sym, refl, ◌∙◌, subst, arith}
 use Rattle.explain.specs.Walking.{Cells}
 use Rattle.explain.proofs.Walks.{order_more, order_all, order_first}
 use Rattle.laws.proofs.Unfolding.{length-placed}

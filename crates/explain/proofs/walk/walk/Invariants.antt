@@ -1,6 +1,5 @@
 use Rattle.std.proofs.Common.{◌≡◌, ◌≤◌, ◌++◌, length, drop}
 use Rattle.model.specs.Explaining.{explain, steps_of}
-use Rattle.explain.specs.Walking.{Cells}
 use Rattle.explain.proofs.walk.walk.Given as goal
 
 -- what is left to explain goes before the steps found

@@ -1,4 +1,4 @@
-use Rattle.std.proofs.Common.{◌≡◌, ◌<◌, ◌≤◌, length, is_some, sym, refl, ap, ◌∙◌, arith}
+use Rattle.std.proofs.Common.{◌<◌, ◌≤◌, length, is_some, sym, refl, ap, ◌∙◌, arith}
 use Rattle.report.specs.Count.{count_filled}
 use Rattle.report.proofs.Counting.{count_one, count_no, count_all}
 use Rattle.report.proofs.count.filled_cells.Goals as goal

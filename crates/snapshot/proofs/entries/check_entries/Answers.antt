@@ -1,5 +1,4 @@
 use Rattle.std.proofs.Common.{arith}
-use Rattle.snapshot.specs.Entries.{cells_fault, roots_fault, links_fault}
 use Rattle.snapshot.proofs.Firsts.{no_fault}
 use Rattle.snapshot.proofs.Order.{cells_sorted, roots_sorted, links_sorted}
 use Rattle.snapshot.proofs.entries.check_entries.Goals as goal

@@ -1,4 +1,4 @@
-use Rattle.std.proofs.Common.{◌≡◌, ◌≤◌, length, get_or, arith}
+use Rattle.std.proofs.Common.{arith}
 use Rattle.snapshot.proofs.Heads.{led, head_answer}
 use Rattle.snapshot.proofs.header.Layout.of.Goals as goal
 

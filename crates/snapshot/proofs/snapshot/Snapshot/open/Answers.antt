@@ -1,4 +1,4 @@
-use Rattle.std.proofs.Common.{◌≡◌, ℕ, ◌≤◌, List, length, get_or, sym, subst, arith, w8, Fits, rules}
+use Rattle.std.proofs.Common.{ℕ, List, length, get_or, sym, subst, arith, w8, Fits, rules}
 use Rattle.snapshot.specs.declared.header.Layout.{Layout}
 use Rattle.snapshot.specs.Alone.{Alone}
 use Rattle.snapshot.proofs.Alone.{one_file}
