@@ -3,7 +3,7 @@
 
 usage: tools/measure.py [PEER]
 
-Run it from the repository's root after `rt check bench inspect`. It prints how long building a full
+Run it from the repository's root after `rt run` in crates/bench and in crates/inspect. It prints how long building a full
 heap, gradings, sweeps' refusals and bad lines take, how the time of a grading grows with the heap,
 and how a grading of a saved heap compares with that of a live one. With the path of a PEER program
 that reads the same scripts from standard input it also prints the ratios, bench over peer.
@@ -16,8 +16,8 @@ import sys
 import tempfile
 import time
 
-BENCH = "target/bin/bench"
-INSPECT = "target/bin/inspect"
+BENCH = "crates/bench/out/bench"
+INSPECT = "crates/inspect/out/inspect"
 RUNS = 9
 STRENGTHS = "sfwp"
 

@@ -1,11 +1,10 @@
 // What a line's answer has to look like, and what a line may change.
 use text::number::value;
 
-// An answer: how many words follow the `ok` of an accepted line, or the number and the byte of a
-// refusal.
+// An answer: that the line was accepted, or the number and the byte of its refusal.
 #[derive(Clone, Copy)]
 pub enum Answer {
-    Accepted { words: u32 },
+    Accepted,
     Refused { number: u32, byte: u32 },
 }
 
@@ -22,16 +21,6 @@ fn read_refusal(text: &[u8]) -> Option<Answer> {
     None
 }
 
-fn count_spaces(text: &[u8]) -> u32 {
-    let mut count = 0u32;
-    for letter in text {
-        if *letter == b' ' {
-            count = count.saturating_add(1);
-        }
-    }
-    count
-}
-
 // The answer that was printed, if it is one line and one answer.
 pub fn read_answer(printed: &[u8]) -> Option<Answer> {
     let [text @ .., b'\n'] = printed else {
@@ -41,9 +30,7 @@ pub fn read_answer(printed: &[u8]) -> Option<Answer> {
         return None;
     }
     match text {
-        [b'o', b'k'] | [b'o', b'k', b' ', ..] => Some(Answer::Accepted {
-            words: count_spaces(text),
-        }),
+        [b'o', b'k'] | [b'o', b'k', b' ', ..] => Some(Answer::Accepted),
         [b'n', b'o', b' ', b't' | b'h', b' ', rest @ ..] => read_refusal(rest),
         _ => None,
     }
@@ -59,16 +46,14 @@ fn is_place(line: &[u8], number: u32, byte: u32) -> bool {
     }
 }
 
-// Whether an answer goes with its line and with how many cells and records the line changed. A
-// refused line changes none, and so do the questions; a sweep changes those that it lists behind
-// two counts; any other line changes one, and says no more than `ok`.
+// Whether an answer goes with its line and with how many cells and records the line changed: a
+// refused line changes none, and so do the questions; any other changes one.
 pub fn is_right(line: &[u8], answer: Answer, changed: u32) -> bool {
     match answer {
         Answer::Refused { number, byte } => changed == 0 && is_place(line, number, byte),
-        Answer::Accepted { words } => match line {
-            [b'g' | b'w', ..] => words >= 2 && changed == 0,
-            [b'k', ..] => words >= 2 && changed == words - 2,
-            _ => words == 0 && changed == 1,
+        Answer::Accepted => match line {
+            [b'g' | b'w', ..] => changed == 0,
+            _ => changed == 1,
         },
     }
 }

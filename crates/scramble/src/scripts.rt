@@ -12,7 +12,7 @@ use trials::tally::Tally;
 
 fn note(tally: &mut Tally, answer: Answer) {
     match answer {
-        Answer::Accepted { .. } => tally.note_accepted(),
+        Answer::Accepted => tally.note_accepted(),
         Answer::Refused { number, .. } => tally.note_refused(number),
     }
 }
