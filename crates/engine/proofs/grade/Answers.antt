@@ -8,7 +8,7 @@ within_room k n size l room = omega (arith, mul-le-mul_right {m = k} {n = n} siz
 
 pub whole_as_slice-settle_all : goal.whole_as_slice-settle_all
 whole_as_slice-settle_all g c =
-    within_room 1024 (length c.args.rows.now) _ c.if-rows.false c.well_formed.1.1.0.1
+    within_room 1024 (length c.args.rows.now) _ (omega arith) c.well_formed.1.1.0.1
 
 pub returns : goal.returns
 returns g c =
