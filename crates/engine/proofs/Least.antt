@@ -73,7 +73,7 @@ module _ {G : Type 0} (s : Scheme G) (law : Lawful s) where
       let w : better_of s x y ≡ Some b.0 = ap (better_of s x) e ∙ b.1 in
       (b.0, w, first_trans s law b.0 o a b.2 f)
 
-  -- so `better-of` finds the least of two sets from the least of each
+  -- so `better_of` finds the least of two sets from the least of each
   pub least_join : (P Q : Offer G → Type 0) (x y : Option (Offer G)) → Least s P x → Least s Q y
       → Least s (λ a. P a ⊎ Q a) (better_of s x y)
   least_join P Q x y p q = record { held = held'; first = first' }

@@ -1,5 +1,6 @@
 -- How the engine works, for its own proofs; grade's promise mentions none of this.
--- Each of its functions, as a function over lists.
+-- Its steps as functions over lists: offers, a look at every record, turns. The code finds the same by
+-- a tree and by chains.
 use Rattle.std.specs.Prelude.{ℕ, zero, suc, ◌+◌, ◌<◌, Bool, true, false, cond, ◌||◌, List, [], ◌∷◌, map, replicate, is_some, Some, None, Option, ◌==◌, nat_lt, slice_index_or, slice_set}
 use Rattle.model.specs.declared.record.Record.{Record}
 use Rattle.model.specs.declared.record.Record.TheVariants.{Root, Link, Ephemeron}

@@ -74,7 +74,7 @@ module _ {G : Type 0} (s : Scheme G) (law : Lawful s) where
   by_numbers : (a b : Offer G) → a.grade ≡ b.grade → NumbersFirst a b → First s a b
   by_numbers a b g n = record { no_worse = rw g (no_worse_refl b.grade); ties = λ _. n }
 
-  -- of two offers `better-of` finds one that comes before both
+  -- of two offers `better_of` finds one that comes before both
   module _ (a b : Offer G) where
     abbrev BeforeBoth : Option (Offer G) → Type 0
     BeforeBoth x = (o : Offer G) × (x ≡ Some o) × (First s o a × First s o b)

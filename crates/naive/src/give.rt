@@ -1,6 +1,6 @@
 // What a record gives.
-ghost use Rattle.std.specs.Prelude.{◌≡◌, is_some};
-ghost use Rattle.model.specs.Meaning.{cell_at, record_at};
+ghost use Rattle.std.specs.Prelude.{◌≡◌};
+ghost use Rattle.model.specs.Meaning.{cell_at};
 ghost use Rattle.model.specs.Settling.{target as reached, size_or_none};
 ghost use Rattle.naive.specs.Resting.{given_by};
 

@@ -1,5 +1,5 @@
 // The answers as they are printed, without the byte that ends the line.
-ghost use Rattle.std.specs.Prelude.{◌≡◌, ℕ, take};
+ghost use Rattle.std.specs.Prelude.{◌≡◌, take};
 ghost use Rattle.text.specs.Writing.{Writes};
 ghost use Rattle.script.specs.Answers.{refusal_text, row_text_if, rows_text, graded_text};
 ghost use Rattle.script.specs.Answers.{step_text, steps_text, explained_text};

@@ -1,4 +1,4 @@
-ghost use Rattle.std.specs.Prelude.{◌≡◌, Ok, Err};
+ghost use Rattle.std.specs.Prelude.{◌≡◌, Ok};
 ghost use Rattle.text.specs.Tokens.{lexeme_of, reading_of};
 ghost use Rattle.text.specs.Commands.{wanted, number_in, strength_letter, scheme_letter};
 ghost use Rattle.text.specs.Commands.{strength_in, scheme_in, counted, command_in};

@@ -1,4 +1,4 @@
-ghost use Rattle.std.specs.Prelude.{◌≡◌, ℕ, ◌+◌, ◌<◌, ◌≤◌, length, drop};
+ghost use Rattle.std.specs.Prelude.{◌≡◌, ◌+◌, ◌<◌, ◌≤◌, length, drop};
 ghost use Rattle.text.specs.Words.{lexeme, front, behind, word_count, reading, byte_of, place_of};
 ghost use Rattle.text.specs.Commands.{words_in};
 ghost use Rattle.text.specs.Tokens.{lexeme_of, reading_of, reading_if};
