@@ -7,7 +7,7 @@ use std::io;
 use trials::dice::Dice;
 use trials::tally::Tally;
 
-mod answers;
+mod answered;
 mod lines;
 mod scripts;
 

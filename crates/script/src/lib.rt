@@ -2,6 +2,5 @@
 
 mod buffer;
 pub mod line;
-pub mod print;
+pub mod named;
 pub mod script;
-pub mod show;

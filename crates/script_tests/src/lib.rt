@@ -2,12 +2,14 @@
 #![tactic(auto)]
 
 #[cfg(test)]
-mod answers;
+mod answered;
 #[cfg(test)]
 mod heap_faults;
 #[cfg(test)]
 mod listing;
 #[cfg(test)]
 mod scripts;
+#[cfg(test)]
+mod sweeps;
 #[cfg(test)]
 mod text_faults;
