@@ -1,12 +1,10 @@
 -- What is printed of a saved heap's file.
-use Rattle.std.specs.Prelude.{ℕ, List, [], ◌∷◌, ◌++◌, Some, None, Ok, Err, codes, decimal, Option, Result}
+use Rattle.std.specs.Prelude.{ℕ, List, [], ◌∷◌, ◌++◌, Some, None, codes, decimal, Option}
 use Rattle.model.specs.declared.fault.Fault.{Fault}
 use Rattle.model.specs.Meaning.{Meaning}
 use Rattle.text.specs.declared.command.SchemeName.{SchemeName}
-use Rattle.text.specs.declared.refusal.Refusal.{Refusal}
-use Rattle.answers.specs.Answers.{refusal_text}
-use Rattle.script.specs.Lines.{told_text, fresh_steps}
-use Rattle.script.specs.Named.{scheme_text, why_under, steps_under}
+use Rattle.script.specs.Answers.{refusal_text}
+use Rattle.script.specs.Lines.{scheme_text, scheme_why_text}
 use Rattle.report.specs.declared.inspect.Wanted.{Wanted}
 use Rattle.report.specs.declared.inspect.Wanted.TheVariants.{Summary, Grades, Why}
 use Rattle.snapshot.specs.Laid.{file_fault, laid_down}
@@ -21,18 +19,9 @@ summary_text h =
 abbrev pub graded_line : SchemeName → Meaning → List ℕ
 graded_line scheme h = scheme_text scheme h ++ (10 ∷ [])
 
--- a refused explanation is refused at byte 4, where the cell's word of a script's line begins
-abbrev pub at_cell : {A : Type 0} → Result A Fault → Result A Refusal
-at_cell (Ok a) = Ok a
-at_cell (Err f) = Err (record { fault = f; byte = 4 })
-
--- the answer that a script's explanation of a cell has
-abbrev pub why_text : SchemeName → ℕ → Meaning → List ℕ
-why_text scheme cell h =
-    told_text (at_cell (why_under scheme h cell fresh_steps)) (steps_under scheme h cell fresh_steps)
-
+-- .. and the one that its explanation of a cell has
 abbrev pub explained_lines : SchemeName → ℕ → Meaning → List ℕ
-explained_lines scheme cell h = graded_line scheme h ++ why_text scheme cell h ++ (10 ∷ [])
+explained_lines scheme cell h = graded_line scheme h ++ scheme_why_text scheme h cell ++ (10 ∷ [])
 
 abbrev pub wanted_lines : Wanted → Meaning → List ℕ
 wanted_lines Summary h = []

@@ -1,23 +1,18 @@
 // What there is to say of a saved heap's file.
 ghost use Rattle.text.specs.Writing.{Writes};
-ghost use Rattle.report.specs.Inspect.{summary_text, graded_line, why_text, explained_lines, wanted_lines};
+ghost use Rattle.report.specs.Inspect.{summary_text, graded_line, explained_lines, wanted_lines};
 ghost use Rattle.report.specs.Inspect.{shown_text, file_refusal_text, inspect_text};
 
 use crate::count::{filled_cells, filled_records};
-use answers::print::{print_explained, print_refusal};
 use model::fault::Fault;
 use model::heap::Heap;
-use script::named::{explain_under, print_scheme};
+use script::line::{print_scheme, print_scheme_why};
+use script::print::print_refusal;
 use snapshot::snapshot::Snapshot;
 use std::alloc::AllocError;
 use text::command::SchemeName;
 use text::refusal::Refusal;
 use text::write::{write_byte, write_number, write_text};
-
-const CELLS: usize = 1024;
-
-// Where the cell's word begins in a script's line that asks why.
-const CELL_BYTE: u32 = 4;
 
 // What is asked of a file, besides a summary.
 #[derive(Clone, Copy)]
@@ -52,29 +47,6 @@ fn print_grading<H: Heap>(out: &mut Vec<u8>, heap: &H, scheme: SchemeName) -> Re
     Ok(())
 }
 
-// The explanation of a cell, or its refusal as a script's line has it.
-fn print_why<H: Heap>(
-    out: &mut Vec<u8>,
-    heap: &H,
-    scheme: SchemeName,
-    cell: u32,
-) -> Result<(), AllocError>
-    ensures { let text = why_text scheme cell (H.Heap.meaning heap.now) in
-        Writes result out.old text out.new }
-{
-    let mut steps = [0; CELLS];
-    match explain_under(heap, scheme, cell, &mut steps) {
-        Ok(why) => print_explained(out, why, &steps),
-        Err(fault) => print_refusal(
-            out,
-            Refusal {
-                fault,
-                byte: CELL_BYTE,
-            },
-        ),
-    }
-}
-
 // A line with the grades, and one with the explanation of a cell.
 fn print_explanation<H: Heap>(
     out: &mut Vec<u8>,
@@ -86,7 +58,7 @@ fn print_explanation<H: Heap>(
         Writes result out.old text out.new }
 {
     print_grading(out, heap, scheme)?;
-    print_why(out, heap, scheme, cell)?;
+    print_scheme_why(out, heap, scheme, cell)?;
     write_byte(out, b'\n')?;
     Ok(())
 }

@@ -12,7 +12,6 @@ enum Word {
     Number,
     Strength,
     Scheme,
-    Limit,
 }
 
 fn any_cell(dice: &mut Dice) -> u32 {
@@ -39,16 +38,6 @@ fn any_number(dice: &mut Dice) -> u32 {
         1 => 4095,
         2 => u32::MAX,
         _ => dice.roll(16),
-    }
-}
-
-fn any_limit(dice: &mut Dice) -> u32 {
-    match dice.roll(10) {
-        0 => 65535,
-        1 => 65536,
-        2 => u32::MAX,
-        3 | 4 => dice.roll(300),
-        _ => dice.roll(5),
     }
 }
 
@@ -88,7 +77,6 @@ fn write_word(dice: &mut Dice, line: &mut Vec<u8>, word: Word) -> Result<(), All
         Word::Number => write_number(line, any_number(dice) as u64),
         Word::Strength => write_letter(dice, line, *b"sfwp"),
         Word::Scheme => write_letter(dice, line, *b"sbdb"),
-        Word::Limit => write_number(line, any_limit(dice) as u64),
     }
 }
 
@@ -114,25 +102,24 @@ fn write_words(
 }
 
 fn write_command(dice: &mut Dice, line: &mut Vec<u8>) -> Result<(), AllocError> {
-    match dice.roll(32) {
-        0..=7 => write_words(dice, line, b'c', &[Word::Cell, Word::Size]),
-        8..=11 => write_words(dice, line, b'r', &[Word::Number, Word::Cell]),
-        12..=17 => write_words(
+    match dice.roll(16) {
+        0 | 1 | 2 => write_words(dice, line, b'c', &[Word::Cell, Word::Size]),
+        3 | 4 => write_words(dice, line, b'r', &[Word::Number, Word::Cell]),
+        5 | 6 | 7 => write_words(
             dice,
             line,
             b'l',
             &[Word::Number, Word::Cell, Word::Cell, Word::Strength],
         ),
-        18..=22 => write_words(
+        8 | 9 | 10 => write_words(
             dice,
             line,
             b'e',
             &[Word::Number, Word::Cell, Word::Cell, Word::Cell],
         ),
-        23..=25 => write_words(dice, line, b'x', &[Word::Number]),
-        26 | 27 => write_words(dice, line, b'g', &[Word::Scheme]),
-        28 | 29 => write_words(dice, line, b'w', &[Word::Scheme, Word::Cell]),
-        30 => write_words(dice, line, b'k', &[Word::Scheme, Word::Limit]),
+        11 | 12 => write_words(dice, line, b'x', &[Word::Number]),
+        13 => write_words(dice, line, b'g', &[Word::Scheme]),
+        14 => write_words(dice, line, b'w', &[Word::Scheme, Word::Cell]),
         _ => write_words(dice, line, b'q', &[Word::Number]),
     }
 }

@@ -7,7 +7,7 @@ use std::io;
 use trials::dice::Dice;
 use trials::tally::Tally;
 
-mod answered;
+mod answers;
 mod lines;
 mod scripts;
 

@@ -1,5 +1,5 @@
 // Scripts, run line by line and byte by byte.
-use crate::answered::{Answer, is_right, read_answer};
+use crate::answers::{Answer, is_right, read_answer};
 use crate::lines::write_line;
 use live::live::LiveHeap;
 use script::line::answer;
@@ -12,7 +12,7 @@ use trials::tally::Tally;
 
 fn note(tally: &mut Tally, answer: Answer) {
     match answer {
-        Answer::Accepted { .. } => tally.note_accepted(),
+        Answer::Accepted => tally.note_accepted(),
         Answer::Refused { number, .. } => tally.note_refused(number),
     }
 }

@@ -1,14 +1,16 @@
 -- Fed byte by byte, a script prints the answers to its lines.
-use Rattle.std.proofs.Common.{◌≡◌, ℕ, ◌+◌, ◌<◌, Bool, true, false, cond, eqb, List, [], ◌∷◌, ◌++◌, length, take, set, Ok, Result, sym, refl, ap, ◌∙◌, ap₂, inl, inr, append_assoc, append-nil, add-one, arith, length-append, length-take, take-suc-set, le-ltb, lt-ltb, eq-eqb, ne_eqb}
+use Rattle.std.proofs.Common.{◌≡◌, ℕ, ◌+◌, ◌<◌, Bool, true, false, cond, eqb, List, [], ◌∷◌, ◌++◌, length, take, set, Result, sym, refl, ap, ◌∙◌, ap₂, inl, inr, append_assoc, append-nil, add-one, arith, length-append, length-take, take-suc-set, le-ltb, lt-ltb, eq-eqb, ne_eqb}
 use lib.Seq.{take-append-le}
 use Rattle.std.proofs.lemmas.List.{take_all}
 use Rattle.std.proofs.lemmas.Bool.{cases_lt}
 use Rattle.model.specs.Meaning.{Meaning}
+use Rattle.text.specs.declared.command.Command.{Command}
 use Rattle.text.specs.declared.refusal.Refusal.{Refusal}
 use Rattle.text.specs.Words.{Reading}
 use Rattle.text.specs.Commands.{words_in, command_in, then}
-use Rattle.script.specs.Lines.{Asked, asked, heap_after, answer_line, after_if, asked_text}
+use Rattle.script.specs.Lines.{obeyed, heap_after, answer_line, after_if, outcome_text, placed, fault_of}
 use Rattle.script.specs.Scripts.{State, lines_of, onto_first, answers, output, kept, with_byte, end_prints, line_ended, line_answer, AnswersEachLine}
+use Rattle.model.specs.Faults.{answer}
 
 -- the first 81 bytes say as much as the whole line
 words_cap : (q : List ℕ) → words_in (take 81 q) ≡ words_in q
@@ -21,17 +23,18 @@ words_cap q = elim (cases_lt 81 (length q)) [
   | inr l ↦ ap words_in (take_all 81 q l)
 ]
 
-asked_cap : (q : List ℕ) → asked (take 81 q) ≡ asked q
-asked_cap q =
-    ap {B = Result Asked Refusal}
-    (λ (r : Result Reading Refusal). then r (λ w. then (command_in w)
-    (λ c. Ok (record { words = w; command = c })))) (words_cap q)
+obeyed_cap : (h : Meaning) (q : List ℕ) → obeyed h (take 81 q) ≡ obeyed h q
+obeyed_cap h q =
+    ap {B = Result Command Refusal}
+    (λ (r : Result Reading Refusal). then r (λ w. then (command_in w) (λ c. placed w (answer
+    (fault_of h c) c))))
+    (words_cap q)
 
 answer_cap : (h : Meaning) (q : List ℕ) → answer_line h (take 81 q) ≡ answer_line h q
-answer_cap h q = ap (λ (r : Result Asked Refusal). asked_text h r ++ (10 ∷ [])) (asked_cap q)
+answer_cap h q = ap (λ (r : Result Command Refusal). outcome_text h r ++ (10 ∷ [])) (obeyed_cap h q)
 
 after_cap : (h : Meaning) (q : List ℕ) → heap_after h (take 81 q) ≡ heap_after h q
-after_cap h q = ap (after_if h) (asked_cap q)
+after_cap h q = ap (after_if h) (obeyed_cap h q)
 
 -- the state in the midst of a line that began with q
 abbrev midst : Meaning → List ℕ → State

@@ -1,31 +1,17 @@
 -- What is printed of a grading is what the settling rule says.
-use Rattle.std.proofs.Common.{◌≡◌, ℕ, ◌≤◌, Bool, true, false, leb, List, ◌++◌, length, take, drop, Some, None, Ok, Option, refl, ap, ◌∙◌, ap₂}
+use Rattle.std.proofs.Common.{◌≡◌, ℕ, List, ◌++◌, take, drop, Some, None, Ok, Option, refl, ap, ◌∙◌, ap₂}
 use Rattle.std.proofs.lemmas.List.{take_at}
-use Rattle.std.proofs.lemmas.Bool.{leb-true}
-use Rattle.model.specs.declared.fault.Cause.TheVariants.{RowsShort}
 use Rattle.model.specs.declared.fault.Fault.{Fault}
 use Rattle.model.specs.declared.row.Counts.{Counts}
-use Rattle.model.specs.Faults.{fault, unless, answer, left}
+use Rattle.model.specs.Faults.{answer, left}
 use Rattle.model.specs.Meaning.{Meaning, WellFormed}
 use Rattle.model.specs.Schemes.{Scheme, Lawful}
 use Rattle.model.specs.Settling.{Rows, graded, weighed}
 use Rattle.model.specs.Grading.{rows_fault, grade_answer, grade_after}
 use Rattle.model.proofs.Steps.{graded_done}
-use Rattle.live.proofs.Faulted.{no_fault}
-use Rattle.answers.specs.Answers.{graded_text}
-use Rattle.script.specs.Named.{grades_text, grading_text, text_unless}
+use Rattle.script.specs.Answers.{graded_text}
+use Rattle.script.specs.Lines.{grades_text, grading_text, text_unless}
 use Rattle.script.proofs.Results.{ok_same, ok_err}
-
-passed : (b : Bool) (f : Fault) → unless b f ≡ None → b ≡ true
-passed true f e = refl
-passed false f e = cc
-
--- only enough rows are graded
-pub rows_enough : {G : Type 0} (s : Scheme G) (h : Meaning) (rows : Rows G) (k : Counts)
-    → Ok k ≡ grade_answer s h rows → 1024 ≤ length rows
-rows_enough s h rows k e =
-    let fine = no_fault (rows_fault rows) _ k e in
-    leb-true 1024 (length rows) (passed (leb 1024 (length rows)) (fault RowsShort 0) fine)
 
 -- k and `front` are the counts and the 1,024 rows that a grading answers and leaves
 module _ {G : Type 0} (show : G → List ℕ) (s : Scheme G) (law : Lawful s)

@@ -1,5 +1,4 @@
-pub mod Named
+pub mod Answers
 pub mod Lines
-pub mod Requests
 pub mod Scripts
 pub mod Held

@@ -2,5 +2,6 @@
 
 mod buffer;
 pub mod line;
-pub mod named;
+pub mod print;
 pub mod script;
+pub mod show;

@@ -1,18 +1,27 @@
 // A line from its bytes to its answer's bytes.
-ghost use Rattle.std.specs.Prelude.{◌≡◌};
+ghost use Rattle.std.specs.Prelude.{◌≡◌, ◌≤◌, length, take};
+ghost use Rattle.model.specs.Faults.{answer as answered};
 ghost use Rattle.live.specs.Live.{meaning_of};
 ghost use Rattle.text.specs.Tokens.{reading_of};
 ghost use Rattle.text.specs.Writing.{Writes};
-ghost use Rattle.script.specs.Named.{why_under, steps_under, sweep_under};
-ghost use Rattle.script.specs.Lines.{asked, placed, fresh_steps, fresh_cells, fresh_records};
-ghost use Rattle.script.specs.Lines.{done_text, told_text, gone_text, command_text, after_command};
-ghost use Rattle.script.specs.Lines.{asked_text, answer_line, heap_after};
-ghost use Rattle.script.specs.Requests.{asked_if};
+ghost use Rattle.script.specs.Lines.{fault_of, after_command, placed, obeyed, heap_after};
+ghost use Rattle.script.specs.Lines.{grading_text, scheme_text, outcome_text, answer_line};
+ghost use Rattle.script.specs.Lines.{why_fault_under, why_text, scheme_why_text};
+ghost use Rattle.model.specs.Explaining.{why_answer};
+ghost use Rattle.std.specs.Result.{result_err};
 
-use crate::named::{explain_under, print_scheme, sweep_under};
-use answers::print::{print_explained, print_refusal, print_swept};
+use crate::print::{print_explained, print_graded, print_refusal};
+use crate::show::Shown;
+use engine::grade;
+use explain::why;
 use live::live::LiveHeap;
 use model::fault::Fault;
+use model::heap::Heap;
+use model::row::Row;
+use model::scheme::Scheme;
+use schemes::bytes::ByBytes;
+use schemes::depth::ByDepth;
+use schemes::strength::ByStrength;
 use std::alloc::AllocError;
 use text::command::{Command, SchemeName};
 use text::refusal::Refusal;
@@ -21,22 +30,59 @@ use text::write::{write_byte, write_text};
 
 const CELLS: usize = 1024;
 
-const RECORDS: usize = 4096;
-
-// The words of a line, and the command that they make.
-#[derive(Clone, Copy)]
-struct Request<'a> {
-    words: Words<'a>,
-    command: Command,
+// Whether there is an explanation of the cell to print.
+fn judge<S: Scheme, H: Heap>(
+    scheme: &S,
+    heap: &H,
+    cell: u32,
+    rows: &mut [Option<Row<S::Grade>>],
+    steps: &mut [u16],
+) -> Result<(), Fault>
+    ensures { let s = S.Scheme.model scheme.now in
+        let h = H.Heap.meaning heap.now in
+        result ≡ answered (result_err (why_answer s h cell rows.old steps.old)) tt }
+{
+    match why(scheme, heap, cell, rows, steps) {
+        Ok(_) => Ok(()),
+        Err(fault) => Err(fault),
+    }
 }
 
-// What a line asks for, or its first fault.
-fn read<'a>(line: &'a [u8]) -> Result<Request<'a>, Refusal>
-    ensures { asked_if result ≡ asked line.now }
+fn judge_why(heap: &LiveHeap, scheme: SchemeName, cell: u32) -> Result<(), Fault>
+    ensures { result ≡ answered (why_fault_under scheme (meaning_of heap.now) cell) tt }
 {
-    let words = Words::of(line)?;
-    let command = words.command()?;
-    Ok(Request { words, command })
+    match scheme {
+        SchemeName::Strength => judge(&ByStrength, heap, cell, &mut [None; CELLS], &mut [0; CELLS]),
+        SchemeName::Bytes => judge(&ByBytes, heap, cell, &mut [None; CELLS], &mut [0; CELLS]),
+        SchemeName::Depth => judge(&ByDepth, heap, cell, &mut [None; CELLS], &mut [0; CELLS]),
+    }
+}
+
+// Does what a command asks of the heap.
+fn perform(heap: &mut LiveHeap, command: Command) -> Result<(), Fault>
+    ensures answers { result ≡ answered (fault_of (meaning_of heap.old) command) tt }
+    ensures leaves { let h = meaning_of heap.old in
+        meaning_of heap.new ≡ after_command h command }
+{
+    match command {
+        Command::Put { cell, size } => heap.put(cell, size),
+        Command::Root { number, target } => heap.root(number, target),
+        Command::Link {
+            number,
+            source,
+            target,
+            strength,
+        } => heap.link(number, source, target, strength),
+        Command::Tie {
+            number,
+            table,
+            key,
+            value,
+        } => heap.tie(number, table, key, value),
+        Command::Erase { number } => heap.erase(number),
+        Command::Grade { .. } => Ok(()),
+        Command::Why { scheme, cell } => judge_why(heap, scheme, cell),
+    }
 }
 
 // Adds to the heap's fault the byte where its argument's word begins.
@@ -52,106 +98,135 @@ fn at_word<T>(res: Result<T, Fault>, words: &Words) -> Result<T, Refusal>
     }
 }
 
-// Prints what came of an edit.
-fn print_edit(out: &mut Vec<u8>, words: &Words, res: Result<(), Fault>) -> Result<(), AllocError>
-    ensures { let text = done_text (placed (reading_of words.now) res) in
-        Writes result out.old text out.new }
-{
-    match at_word(res, words) {
-        Ok(()) => write_text(out, b"ok"),
-        Err(refusal) => print_refusal(out, refusal),
-    }
-}
-
-// Explains a cell, and prints the explanation or why there is none.
-fn print_why(
-    out: &mut Vec<u8>,
-    words: &Words,
-    heap: &LiveHeap,
-    scheme: SchemeName,
-    cell: u32,
-) -> Result<(), AllocError>
-    ensures { let h = meaning_of heap.now in
-        let told = placed (reading_of words.now) (why_under scheme h cell fresh_steps) in
-        let text = told_text told (steps_under scheme h cell fresh_steps) in
-        Writes result out.old text out.new }
-{
-    let mut steps = [0; CELLS];
-    match at_word(explain_under(heap, scheme, cell, &mut steps), words) {
-        Ok(why) => print_explained(out, why, &steps),
-        Err(refusal) => print_refusal(out, refusal),
-    }
-}
-
-// Sweeps the heap, and prints what was taken away or why nothing was.
-fn print_sweep(
-    out: &mut Vec<u8>,
-    words: &Words,
-    heap: &mut LiveHeap,
-    scheme: SchemeName,
-    limit: u32,
-) -> Result<(), AllocError>
-    ensures writes { let k = sweep_under scheme (meaning_of heap.old) limit fresh_cells fresh_records in
-        let gone = placed (reading_of words.now) k.answer in
-        Writes result out.old (gone_text gone k.cells k.records) out.new }
-    ensures leaves { let k = sweep_under scheme (meaning_of heap.old) limit fresh_cells fresh_records in
-        meaning_of heap.new ≡ k.heap }
-{
-    let mut cells = [0; CELLS];
-    let mut records = [0; RECORDS];
-    match at_word(
-        sweep_under(heap, scheme, limit, &mut cells, &mut records),
-        words,
-    ) {
-        Ok(swept) => print_swept(out, swept, &cells, &records),
-        Err(refusal) => print_refusal(out, refusal),
-    }
-}
-
-// Does what a command asks for, and prints what came of it.
-fn obey(
-    heap: &mut LiveHeap,
-    words: &Words,
-    command: Command,
-    out: &mut Vec<u8>,
-) -> Result<(), AllocError>
-    ensures writes { let h = meaning_of heap.old in
-        let text = command_text h (reading_of words.now) command in
-        Writes result out.old text out.new }
-    ensures leaves { let h = meaning_of heap.old in
-        meaning_of heap.new ≡ after_command h command }
-{
-    match command {
-        Command::Put { cell, size } => print_edit(out, words, heap.put(cell, size)),
-        Command::Root { number, target } => print_edit(out, words, heap.root(number, target)),
-        Command::Link {
-            number,
-            source,
-            target,
-            strength,
-        } => print_edit(out, words, heap.link(number, source, target, strength)),
-        Command::Tie {
-            number,
-            table,
-            key,
-            value,
-        } => print_edit(out, words, heap.tie(number, table, key, value)),
-        Command::Erase { number } => print_edit(out, words, heap.erase(number)),
-        Command::Grade { scheme } => print_scheme(out, heap, scheme),
-        Command::Why { scheme, cell } => print_why(out, words, heap, scheme, cell),
-        Command::Sweep { scheme, limit } => print_sweep(out, words, heap, scheme, limit),
-    }
-}
-
-// Obeys a line, and prints its answer.
-fn respond(heap: &mut LiveHeap, line: &[u8], out: &mut Vec<u8>) -> Result<(), AllocError>
-    ensures writes { let text = asked_text (meaning_of heap.old) (asked line.now) in
-        Writes result out.old text out.new }
+// Obeys a line, and says which command it was.
+fn obey(heap: &mut LiveHeap, line: &[u8]) -> Result<Command, Refusal>
+    ensures answers { result ≡ obeyed (meaning_of heap.old) line.now }
     ensures leaves { let h = meaning_of heap.old in
         meaning_of heap.new ≡ heap_after h line.now }
 {
-    match read(line) {
-        Ok(request) => obey(heap, &request.words, request.command, out),
+    let words = Words::of(line)?;
+    let command = words.command()?;
+    at_word(perform(heap, command), &words)?;
+    Ok(command)
+}
+
+// The rows that grading fills.
+fn first_rows<G>(rows: &[Option<Row<G>>]) -> &[Option<Row<G>>]
+    requires { 1024 ≤ length rows.now }
+    ensures { result.now ≡ take 1024 rows.now }
+{
+    &rows[0..CELLS]
+}
+
+// Grades the heap into lent rows, and prints what was found.
+pub fn print_grades<S: Scheme, H: Heap>(
+    out: &mut Vec<u8>,
+    scheme: &S,
+    heap: &H,
+    rows: &mut [Option<Row<S::Grade>>],
+) -> Result<(), AllocError>
+where
+    S::Grade: Shown,
+    ensures { let s = S.Scheme.model scheme.now in
+        let h = H.Heap.meaning heap.now in
+        let text = grading_text S.Grade.Shown.text s h rows.old in
+        Writes result out.old text out.new }
+{
+    match grade(scheme, heap, rows) {
+        Ok(counts) => print_graded(out, counts, first_rows(rows)),
+        Err(fault) => print_refusal(out, Refusal { fault, byte: 0 }),
+    }
+}
+
+// Grades the heap under the scheme that is named, and prints what was found.
+pub fn print_scheme<H: Heap>(
+    out: &mut Vec<u8>,
+    heap: &H,
+    scheme: SchemeName,
+) -> Result<(), AllocError>
+    ensures { let text = scheme_text scheme (H.Heap.meaning heap.now) in
+        Writes result out.old text out.new }
+{
+    match scheme {
+        SchemeName::Strength => print_grades(out, &ByStrength, heap, &mut [None; CELLS]),
+        SchemeName::Bytes => print_grades(out, &ByBytes, heap, &mut [None; CELLS]),
+        SchemeName::Depth => print_grades(out, &ByDepth, heap, &mut [None; CELLS]),
+    }
+}
+
+// Explains a cell into lent rows and steps, and prints the explanation.
+pub fn print_why<S: Scheme, H: Heap>(
+    out: &mut Vec<u8>,
+    scheme: &S,
+    heap: &H,
+    cell: u32,
+    rows: &mut [Option<Row<S::Grade>>],
+    steps: &mut [u16],
+) -> Result<(), AllocError>
+where
+    S::Grade: Shown,
+    ensures { let s = S.Scheme.model scheme.now in
+        let h = H.Heap.meaning heap.now in
+        let text = why_text S.Grade.Shown.text s h cell rows.old steps.old in
+        Writes result out.old text out.new }
+{
+    match why(scheme, heap, cell, rows, steps) {
+        Ok(found) => print_explained(out, found, steps),
+        Err(fault) => print_refusal(out, Refusal { fault, byte: 4 }),
+    }
+}
+
+// Explains a cell under the scheme that is named, and prints the explanation.
+pub fn print_scheme_why<H: Heap>(
+    out: &mut Vec<u8>,
+    heap: &H,
+    scheme: SchemeName,
+    cell: u32,
+) -> Result<(), AllocError>
+    ensures { let text = scheme_why_text scheme (H.Heap.meaning heap.now) cell in
+        Writes result out.old text out.new }
+{
+    match scheme {
+        SchemeName::Strength => print_why(
+            out,
+            &ByStrength,
+            heap,
+            cell,
+            &mut [None; CELLS],
+            &mut [0; CELLS],
+        ),
+        SchemeName::Bytes => print_why(
+            out,
+            &ByBytes,
+            heap,
+            cell,
+            &mut [None; CELLS],
+            &mut [0; CELLS],
+        ),
+        SchemeName::Depth => print_why(
+            out,
+            &ByDepth,
+            heap,
+            cell,
+            &mut [None; CELLS],
+            &mut [0; CELLS],
+        ),
+    }
+}
+
+// Prints what came of a line. Grading changes nothing, so it is done here.
+fn print_outcome(
+    out: &mut Vec<u8>,
+    heap: &LiveHeap,
+    outcome: Result<Command, Refusal>,
+) -> Result<(), AllocError>
+    ensures { let h = meaning_of heap.now in
+        Writes result out.old (outcome_text h outcome) out.new }
+{
+    match outcome {
+        Ok(Command::Grade { scheme }) => print_scheme(out, heap, scheme),
+        Ok(Command::Why { scheme, cell }) => print_scheme_why(out, heap, scheme, cell),
+        Ok(_) => write_text(out, b"ok"),
         Err(refusal) => print_refusal(out, refusal),
     }
 }
@@ -164,7 +239,8 @@ pub fn answer(heap: &mut LiveHeap, line: &[u8], out: &mut Vec<u8>) -> Result<(),
     ensures leaves { let h = meaning_of heap.old in
         meaning_of heap.new ≡ heap_after h line.now }
 {
-    respond(heap, line, out)?;
+    let outcome = obey(heap, line);
+    print_outcome(out, heap, outcome)?;
     write_byte(out, b'\n')?;
     Ok(())
 }

@@ -1,4 +1,4 @@
-use super::answered::check_answers;
+use super::answers::check_answers;
 use std::test::Fail;
 
 #[test]

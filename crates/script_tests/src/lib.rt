@@ -2,14 +2,12 @@
 #![tactic(auto)]
 
 #[cfg(test)]
-mod answered;
+mod answers;
 #[cfg(test)]
 mod heap_faults;
 #[cfg(test)]
 mod listing;
 #[cfg(test)]
 mod scripts;
-#[cfg(test)]
-mod sweeps;
 #[cfg(test)]
 mod text_faults;

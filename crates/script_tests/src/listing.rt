@@ -1,4 +1,4 @@
-use super::answered::check_answers;
+use super::answers::check_answers;
 use model::scheme::Scheme;
 use schemes::bytes::ByBytes;
 use schemes::depth::ByDepth;
@@ -7,7 +7,7 @@ use std::test::Fail;
 use text::command::SchemeName;
 
 #[test]
-fn a_heap_graded_explained_and_swept(rt: HostRuntime) -> Result<(), Fail> {
+fn a_heap_graded_by_strength_bytes_and_depth(rt: HostRuntime) -> Result<(), Fail> {
     check_answers(
         &rt,
         rt.alloc(),
@@ -25,8 +25,7 @@ fn a_heap_graded_explained_and_swept(rt: HostRuntime) -> Result<(), Fail> {
             ("g b", "ok 4 5 0=10/0 1=30/1 2=15/3 3=53/2"),
             ("w s 3", "ok 2 4 0 1 3 2"),
             ("c 2 9", "no h 2 2"),
-            ("k s 1", "ok 2 3 2 3 2 3 4"),
-            ("g d", "ok 2 2 0=0.0/0 1=1.1/1"),
+            ("g d", "ok 4 5 0=0.0/0 1=1.1/1 2=1.3/3 3=2.2/2"),
         ],
     )
 }

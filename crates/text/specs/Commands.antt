@@ -5,7 +5,7 @@ use Rattle.model.specs.declared.fault.Cause.TheVariants.{LineLong, NoCommand, Wo
 use Rattle.model.specs.Faults.{fault}
 use Rattle.text.specs.declared.refusal.Refusal.{Refusal}
 use Rattle.text.specs.declared.command.Command.{Command}
-use Rattle.text.specs.declared.command.Command.TheVariants.{Put, Root, Link, Tie, Erase, Grade, Why, Sweep}
+use Rattle.text.specs.declared.command.Command.TheVariants.{Put, Root, Link, Tie, Erase, Grade, Why}
 use Rattle.text.specs.declared.command.SchemeName.{SchemeName}
 use Rattle.text.specs.declared.command.SchemeName.TheVariants.{Strength, Bytes, Depth}
 use Rattle.text.specs.Words.{Lexeme, numeral, letter, other, Reading, reading}
@@ -100,12 +100,6 @@ why_in w =
     counted w 3 (then (scheme_in w.first) (λ scheme.
     then (number_in w.second) (λ cell. Ok (Why scheme cell))))
 
--- k M LIMIT
-abbrev pub sweep_in : Reading → Result Command Refusal
-sweep_in w =
-    counted w 3 (then (scheme_in w.first) (λ scheme.
-    then (number_in w.second) (λ limit. Ok (Sweep scheme limit))))
-
 abbrev pub by_letter : ℕ → Reading → Result Command Refusal
 by_letter b w =
     cond (b == 99) (put_in w)
@@ -115,8 +109,7 @@ by_letter b w =
     (cond (b == 120) (erase_in w)
     (cond (b == 103) (grade_in w)
     (cond (b == 119) (why_in w)
-    (cond (b == 107) (sweep_in w)
-    (refuse NoCommand 0))))))))
+    (refuse NoCommand 0)))))))
 
 -- the first word names the command
 abbrev pub by_verb : Lexeme → Reading → Result Command Refusal

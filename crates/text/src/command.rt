@@ -2,8 +2,7 @@ ghost use Rattle.std.specs.Prelude.{◌≡◌, Ok};
 ghost use Rattle.text.specs.Tokens.{lexeme_of, reading_of};
 ghost use Rattle.text.specs.Commands.{wanted, number_in, strength_letter, scheme_letter};
 ghost use Rattle.text.specs.Commands.{strength_in, scheme_in, counted, command_in};
-ghost use Rattle.text.specs.Commands.{put_in, root_in, link_in, tie_in, erase_in, grade_in};
-ghost use Rattle.text.specs.Commands.{why_in, sweep_in};
+ghost use Rattle.text.specs.Commands.{put_in, root_in, link_in, tie_in, erase_in, grade_in, why_in};
 
 use crate::number::value;
 use crate::refusal::{Refusal, refused};
@@ -50,10 +49,6 @@ pub enum Command {
     Why {
         scheme: SchemeName,
         cell: u32,
-    },
-    Sweep {
-        scheme: SchemeName,
-        limit: u32,
     },
 }
 
@@ -207,15 +202,6 @@ impl Words<'_> {
         Ok(Command::Why { scheme, cell })
     }
 
-    fn sweep(&self) -> Result<Command, Refusal>
-        ensures { result ≡ sweep_in (reading_of self.now) }
-    {
-        self.expect(3)?;
-        let scheme = self.first.scheme()?;
-        let limit = self.second.number()?;
-        Ok(Command::Sweep { scheme, limit })
-    }
-
     // The command that the words make, or their first fault.
     pub fn command(&self) -> Result<Command, Refusal>
         ensures { result ≡ command_in (reading_of self.now) }
@@ -231,7 +217,6 @@ impl Words<'_> {
             'x' => self.erase(),
             'g' => self.grade(),
             'w' => self.why(),
-            'k' => self.sweep(),
             _ => refused(Cause::NoCommand, 0),
         }
     }

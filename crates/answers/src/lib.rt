@@ -1,4 +1,0 @@
-#![tactic(auto)]
-
-pub mod print;
-pub mod show;
