@@ -5,7 +5,7 @@ use Rattle.model.specs.declared.fault.Fault.{Fault}
 use Rattle.model.specs.declared.fault.Cause.TheVariants.{CellNumber, CellEmpty, RecordNumber}
 use Rattle.model.specs.declared.record.Record.{Record}
 use Rattle.model.specs.declared.record.Record.TheVariants.{Root, Link, Ephemeron}
-use Rattle.model.specs.Faults.{fault, unless, first, left}
+use Rattle.model.specs.Faults.{fault, unless, left}
 use Rattle.model.specs.Meaning.{Meaning, WellFormed, cell_at, filled_in, names_filled}
 use Rattle.model.specs.Strengths.{strength_of}
 use Rattle.model.specs.Calls.{empty_heap, with_cell, with_record, cell_fault, filled_fault, empty_fault, size_fault}
@@ -13,15 +13,11 @@ use Rattle.model.specs.Calls.{record_fault, free_fault, held_fault}
 use Rattle.model.specs.Calls.{put_fault, root_fault, link_fault, tie_fault, erase_fault}
 use Rattle.model.specs.Sweeping.{sweep_fault, kept}
 use Rattle.model.proofs.Filled.{none_some}
+use Rattle.model.proofs.Faults.{first_none}
 use Rattle.model.proofs.Kept.{length-kept, sizes_kept, names_kept, names_with, length-new, sizes_new, names_new}
 use Rattle.laws.specs.Reference.{Call, put, root, link, tie, erase, grade, why, sweep}
 use Rattle.laws.specs.Runs.{after_call}
 use Rattle.laws.proofs.Emptied.{emptied_formed}
-
--- where there is no fault, each test was passed
-pub first_none : (a b : Option Fault) → first a b ≡ None → (a ≡ None) × (b ≡ None)
-first_none None b e = (refl, e)
-first_none (Some f) b e = absurd (none_some e refl)
 
 pub unless_none : (b : Bool) (f : Fault) → unless b f ≡ None → b ≡ true
 unless_none true f e = refl

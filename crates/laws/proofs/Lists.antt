@@ -1,6 +1,6 @@
 -- What the lists of a sweep name.
 use Rattle.std.proofs.Common.{◌≡◌, ℕ, zero, suc, ◌+◌, ◌≤◌, Bool, true, false, cond, not, List, [], ◌∷◌, get_or, Some, None, Option, sym, refl, ap, ◌∙◌, subst, inl, inr, ⊎_elim, arith}
-use Rattle.std.proofs.lemmas.Bool.{false≢true}
+use Rattle.std.proofs.lemmas.Bool.{not-true}
 use Rattle.model.specs.Schemes.{Scheme, Lawful}
 use Rattle.model.specs.Meaning.{Meaning, WellFormed}
 use Rattle.model.specs.Explaining.{Among}
@@ -85,10 +85,6 @@ module _ {A : Type 0} (pick : ℕ → A → Bool) where
       let at : n ≡ p.0 = omega (arith, p.2) in
       (p.1, ap (λ (k : ℕ). get_or xs k None) at ∙ p.3, p.4)
 
-not_true : (b : Bool) → not b ≡ true → b ≡ false
-not_true true e = absurd (false≢true e)
-not_true false e = refl
-
 -- the lists name exactly the dropped cells and the records that name one
 module _ {G : Type 0} (s : Scheme G) (law : Lawful s) (h : Meaning) (wf : WellFormed h) (limit : G) where
   pub lists_dropped : Lists (Dropped s limit h) (dropped_cells (kept s limit h) h)
@@ -99,7 +95,7 @@ module _ {G : Type 0} (s : Scheme G) (law : Lawful s) (h : Meaning) (wf : WellFo
         record {
           size = p.0;
           filled = p.1;
-          unheld = unheld_gone s law h wf limit n (not_true (kept s limit h n) p.2);
+          unheld = unheld_gone s law h wf limit n (not-true (kept s limit h n) p.2);
         };
     every = λ n d.
         every_first (λ c size. not (kept s limit h c)) h.cells n d.size d.filled
@@ -111,7 +107,7 @@ module _ {G : Type 0} (s : Scheme G) (law : Lawful s) (h : Meaning) (wf : WellFo
     rising = picked_rising (λ r rec. not (names_kept (kept s limit h) rec)) 0 h.records;
     only = λ n m.
         let p = only_first (λ r rec. not (names_kept (kept s limit h) rec)) h.records n m in
-        gone_cleared s law h wf limit n p.0 p.1 (not_true (names_kept (kept s limit h) p.0) p.2);
+        gone_cleared s law h wf limit n p.0 p.1 (not-true (names_kept (kept s limit h) p.0) p.2);
     every = λ n d.
         every_first (λ r rec. not (names_kept (kept s limit h) rec)) h.records n d.content d.filled
         (ap not (cleared_gone s law h wf limit n d));

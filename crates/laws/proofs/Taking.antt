@@ -25,7 +25,8 @@ use Rattle.laws.specs.Reference.{Call, put, root, link, tie, erase, grade, why, 
 use Rattle.laws.specs.Reference.{at_once, underived, crowded, explained}
 use Rattle.laws.specs.Reference.{Same, CellBecomes, RecordBecomes, Moves, Sized, Takes, Length}
 use Rattle.laws.specs.Runs.{refusal, after_call}
-use Rattle.laws.proofs.Formed.{first_none, empty_number, free_number, held_number, after_formed}
+use Rattle.model.proofs.Faults.{first_none}
+use Rattle.laws.proofs.Formed.{empty_number, free_number, held_number, after_formed}
 use Rattle.laws.proofs.Stepping.{steps_once}
 use Rattle.laws.proofs.Telling.{graded_steps}
 use Rattle.laws.proofs.Ordering.{graded_in_order, only_graded}

@@ -1,4 +1,5 @@
 pub mod Filled
+pub mod Faults
 pub mod Formed
 pub mod Order
 pub mod Choice

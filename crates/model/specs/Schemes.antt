@@ -1,5 +1,7 @@
 -- What a scheme of grades is, and the laws that make it lawful.
 use Rattle.std.specs.Prelude.{◌≡◌, ℕ, ◌<◌, ◌≤◌, Bool, true, false}
+use Rattle.std.specs.declared.cmp.Ordering.{Ordering}
+use Rattle.std.specs.declared.cmp.Ordering.TheVariants.{Less, Equal, Greater}
 use Rattle.model.specs.declared.record.Strength.{Strength}
 use Rattle.model.specs.declared.scheme.Rank.{Rank}
 use Rattle.model.specs.declared.scheme.Rank.TheVariants.{Before, Same, After}
@@ -13,6 +15,12 @@ pub record Scheme (G : Type 0) : Type 0 where
   pub start : ℕ → ℕ → G
   pub along : ℕ → ℕ → G → Strength → G
   pub join : ℕ → ℕ → G → G → G
+
+-- the smaller of two is the better
+abbrev pub rank_of : Ordering → Rank
+rank_of Less = Before
+rank_of Equal = Same
+rank_of Greater = After
 
 abbrev pub exchanged : Rank → Rank
 exchanged Before = After

@@ -1,5 +1,5 @@
 ghost use Rattle.std.specs.Prelude.{◌≡◌};
-ghost use Rattle.model.specs.Faults.{layer_of, number_of, letter_of};
+ghost use Rattle.model.specs.Faults.{fault, layer_of, number_of, letter_of};
 
 // Who a fault speaks of: the one who wrote the text, the one who called the heap,
 // or the one who saved the file.
@@ -81,6 +81,13 @@ pub enum Cause {
 }
 
 impl Cause {
+    // The fault of this cause at a place.
+    pub fn at(self, place: u32) -> Fault
+        ensures { result ≡ fault self place }
+    {
+        Fault { cause: self, place }
+    }
+
     pub fn layer(self) -> Layer
         ensures { result ≡ layer_of self }
     {

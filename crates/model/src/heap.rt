@@ -3,6 +3,14 @@ ghost use Rattle.model.specs.Meaning.{Meaning, cell_at, record_at, WellFormed};
 
 use crate::record::Record;
 
+// How many cells a heap has, and how many records.
+pub const CELLS: u16 = 1024;
+
+pub const RECORDS: u16 = 4096;
+
+// The largest size of a cell, in bytes.
+pub const LARGEST_SIZE: u32 = 1048576;
+
 // Anything that can be asked which cell and which record it holds at a number.
 pub trait Heap {
     // the cells and the records that the two questions are answered from

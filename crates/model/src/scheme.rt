@@ -1,14 +1,29 @@
 ghost use Rattle.std.specs.Prelude.{◌≡◌};
-ghost use Rattle.model.specs.Schemes.{Scheme as Model, Lawful};
+ghost use Rattle.model.specs.Schemes.{Scheme as Model, Lawful, rank_of};
 
 use crate::record::Strength;
+use std::cmp::Ordering;
 
-// How the first of two grades compares with the second: better, equal or worse.
+// How the first of two grades compares with the second: better, equal or worse. The names are its
+// own, since that a grade is less would not say that it is better.
 #[derive(Clone, Copy, PartialEq, Eq, Debug)]
 pub enum Rank {
     Before,
     Same,
     After,
+}
+
+// The smaller is the better.
+impl From<Ordering> for Rank {
+    ghost from_gives = { λ order rank. rank ≡ rank_of order };
+
+    fn from(order: Ordering) -> Rank {
+        match order {
+            Ordering::Less => Rank::Before,
+            Ordering::Equal => Rank::Same,
+            Ordering::Greater => Rank::After,
+        }
+    }
 }
 
 // A scheme of grades: what a way of reaching a cell is worth.

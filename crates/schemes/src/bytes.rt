@@ -2,7 +2,6 @@ ghost use Rattle.std.specs.Prelude.{◌≡◌};
 ghost use Rattle.schemes.specs.Bytes.{by_bytes, bytes_limit};
 ghost use Rattle.schemes.specs.Lawful.{bytes_lawful};
 
-use crate::number::by_number;
 use model::fault::Fault;
 use model::record::Strength;
 use model::scheme::{Rank, Scheme};
@@ -21,7 +20,7 @@ impl Scheme for ByBytes {
     ghost lawful = { λ _. bytes_lawful };
 
     fn rank(&self, a: u32, b: u32) -> Rank {
-        by_number(a, b)
+        a.cmp(&b).into()
     }
 
     fn start(&self, _number: u16, size: u32) -> u32 {

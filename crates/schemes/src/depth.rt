@@ -2,21 +2,21 @@ ghost use Rattle.std.specs.Prelude.{◌≡◌};
 ghost use Rattle.schemes.specs.Depth.{below, by_depth, depth_limit};
 ghost use Rattle.schemes.specs.Lawful.{depth_lawful};
 
-use crate::number::by_number;
-use model::fault::{Cause, Fault};
+use crate::NO_GRADE;
+use model::fault::Fault;
 use model::record::Strength;
 use model::scheme::{Rank, Scheme};
 
 // How many links and ephemerons lead from a root to a cell. The tie is the number
-// of the last record on that way.
-#[derive(Clone, Copy, PartialEq, Eq, Debug)]
+// of the last record on that way. Depths are ordered by depth, then by tie.
+#[derive(Clone, Copy, PartialEq, Eq, PartialOrd, Ord, Debug)]
 pub struct Depth {
     pub depth: u16,
     pub tie: u16,
 }
 
 // Where depths end: what lies deeper is held there.
-const DEEPEST: u16 = 65535;
+const DEEPEST: u16 = u16::MAX;
 
 // A cell's grade is its depth.
 #[derive(Clone, Copy)]
@@ -42,10 +42,7 @@ impl Scheme for ByDepth {
     ghost lawful = { λ _. depth_lawful };
 
     fn rank(&self, a: Depth, b: Depth) -> Rank {
-        match by_number(a.depth as u32, b.depth as u32) {
-            Rank::Same => by_number(a.tie as u32, b.tie as u32),
-            rank => rank,
-        }
+        a.cmp(&b).into()
     }
 
     fn start(&self, number: u16, _size: u32) -> Depth {
@@ -69,16 +66,10 @@ impl ByDepth {
     pub fn limit(number: u32) -> Result<Depth, Fault>
         ensures { result ≡ depth_limit number }
     {
-        if number <= DEEPEST as u32 {
-            Ok(Depth {
-                depth: number as u16,
-                tie: DEEPEST,
-            })
-        } else {
-            Err(Fault {
-                cause: Cause::LimitNumber,
-                place: 2,
-            })
-        }
+        let depth = u16::try_from(number).map_err(|_| NO_GRADE)?;
+        Ok(Depth {
+            depth,
+            tie: DEEPEST,
+        })
     }
 }

@@ -1,6 +1,13 @@
 #![tactic(auto)]
 
+use model::fault::{Cause, Fault};
+
 pub mod bytes;
 pub mod depth;
-mod number;
 pub mod strength;
+
+// A limit is made of a number that is no grade.
+const NO_GRADE: Fault = Fault {
+    cause: Cause::LimitNumber,
+    place: 2,
+};

@@ -1,22 +1,16 @@
 ghost use Rattle.std.specs.Prelude.{◌≡◌};
-ghost use Rattle.schemes.specs.Strength.{weaker_of, by_strength, strength_limit};
+ghost use Rattle.schemes.specs.Strength.{by_strength, strength_limit};
 ghost use Rattle.schemes.specs.Lawful.{strength_lawful};
 
-use crate::number::by_number;
-use model::fault::{Cause, Fault};
+use crate::NO_GRADE;
+use model::fault::Fault;
 use model::record::Strength;
 use model::scheme::{Rank, Scheme};
 
-// A cell's grade is the weakest link on the way to it.
+// A cell's grade is the weakest link on the way to it. Strengths are ordered from the strongest
+// on, so the weaker of two is the larger.
 #[derive(Clone, Copy)]
 pub struct ByStrength;
-
-// The weaker of two strengths, the one of the larger number.
-fn weaker_of(a: Strength, b: Strength) -> Strength
-    ensures { result ≡ weaker_of a b }
-{
-    if a.number() < b.number() { b } else { a }
-}
 
 impl Scheme for ByStrength {
     type Grade = Strength;
@@ -28,7 +22,7 @@ impl Scheme for ByStrength {
     ghost lawful = { λ _. strength_lawful };
 
     fn rank(&self, a: Strength, b: Strength) -> Rank {
-        by_number(a.number(), b.number())
+        a.cmp(&b).into()
     }
 
     fn start(&self, _number: u16, _size: u32) -> Strength {
@@ -36,11 +30,11 @@ impl Scheme for ByStrength {
     }
 
     fn along(&self, _number: u16, _size: u32, source: Strength, strength: Strength) -> Strength {
-        weaker_of(source, strength)
+        source.max(strength)
     }
 
     fn join(&self, _number: u16, _size: u32, table: Strength, key: Strength) -> Strength {
-        weaker_of(table, key)
+        table.max(key)
     }
 }
 
@@ -49,12 +43,6 @@ impl ByStrength {
     pub fn limit(number: u32) -> Result<Strength, Fault>
         ensures { result ≡ strength_limit number }
     {
-        match Strength::of(number) {
-            Some(strength) => Ok(strength),
-            None => Err(Fault {
-                cause: Cause::LimitNumber,
-                place: 2,
-            }),
-        }
+        Strength::try_from(number).map_err(|_| NO_GRADE)
     }
 }
