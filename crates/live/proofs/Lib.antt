@@ -1,2 +1,1 @@
-pub mod Faulted
 pub mod Retained

@@ -1,72 +1,88 @@
--- What dropping cells leaves of the tables, place by place.
-use Rattle.std.proofs.Common.{◌≡◌, ℕ, ◌+◌, ◌<◌, ◌≤◌, Bool, true, false, cond, List, [], ◌∷◌, ◌++◌, map, length, get_or, take, drop, set, None, Option, sym, refl, ap, ◌∙◌, append_assoc, arith}
-use Rattle.std.proofs.lemmas.List.{at_drop_more, at_drop_all, take_more_set, drop-set-lt, take_all, append-nil, set-get_or, length-set}
+-- What a test leaves of a table, place by place, and what that is of the cells and of the records.
+use Rattle.std.proofs.Common.{◌≡◌, ℕ, ◌+◌, ◌<◌, ◌≤◌, Bool, true, false, cond, List, [], ◌∷◌, ◌++◌, map, length, get_or, take, drop, set, Some, None, Option, refl, append_assoc, arith}
+use Rattle.std.proofs.lemmas.List.{at_drop_more, at_drop_all, take_more_set, drop-set-lt, take_all, append-nil, set-get_or}
 use Rattle.model.specs.declared.record.Record.{Record}
 use Rattle.model.specs.Meaning.{Meaning, heap_of, WellFormed}
-use Rattle.model.specs.Sweeping.{cells_kept, record_kept}
+use Rattle.model.specs.Sweeping.{cells_kept, names_kept, record_kept, emptied}
 use Rattle.laws.proofs.Emptied.{emptied_formed}
+use Rattle.live.specs.Retaining.{retained_at, retained}
 
--- a table is changed from its front on: what is done goes before what becomes of the others
-place_done : {X : Type 0} (f : ℕ → X → X) (rest : ℕ → List X → List X)
-    → ((i : ℕ) (x : X) (xs : List X) → rest i (x ∷ xs) ≡ f i x ∷ rest (i + 1) xs)
-    → (xs : List X) (i : ℕ) (x d : X) → i < length xs → x ≡ f i (get_or xs i d)
-    → take (i + 1) (set xs i x) ++ rest (i + 1) (drop (i + 1) (set xs i x)) ≡ take i xs ++ rest i (drop i xs)
-place_done f rest rest_more xs i x d l e =
-    let front = take_more_set xs i x l in
-    let back = drop-set-lt (i + 1) xs i x (omega arith) in
-    let joined = append_assoc (take i xs) (x ∷ []) (rest (i + 1) (drop (i + 1) xs)) in
-    let here = at_drop_more (rest i) xs i d l in
-    let more = rest_more i (get_or xs i d) (drop (i + 1) xs) in
-    cc
+module _ {A : Type 0} (keep : ℕ → A → Bool) (xs whole : List (Option A)) (i : ℕ)
+    (before : take i xs ++ retained keep i (drop i xs) ≡ whole) where
+  -- a turn: what becomes of place i
+  module _ (ys : List (Option A)) (d : Option A) (within : i < length xs) where
+    becomes : (x : Option A) → x ≡ retained_at keep i (get_or xs i d) → ys ≡ set xs i x
+        → take (i + 1) ys ++ retained keep (i + 1) (drop (i + 1) ys) ≡ whole
+    unfolding retained
+    becomes x k e =
+        let front = take_more_set xs i x within in
+        let back = drop-set-lt (i + 1) xs i x (omega arith) in
+        let joined = append_assoc (take i xs) (x ∷ []) (retained keep (i + 1) (drop (i + 1) xs)) in
+        let left = at_drop_more (retained keep i) xs i d within in
+        cc
 
-all_done : {X : Type 0} (rest : ℕ → List X → List X) → ((i : ℕ) → rest i [] ≡ [])
-    → (xs whole : List X) (i : ℕ) → length xs ≤ i → take i xs ++ rest i (drop i xs) ≡ whole → xs ≡ whole
-all_done rest rest-none xs whole i l e =
-    let front = take_all i xs l in
-    let back = at_drop_all (rest i) xs i l ∙ rest-none i in
-    let joined = append-nil xs in
-    cc
+    pub empties : (x : A) → get_or xs i d ≡ Some x → keep i x ≡ false → ys ≡ set xs i None
+        → take (i + 1) ys ++ retained keep (i + 1) (drop (i + 1) ys) ≡ whole
+    empties x is k e = becomes None (rw (is, k)) e
+
+    leaves : get_or xs i d ≡ retained_at keep i (get_or xs i d) → ys ≡ xs
+        → take (i + 1) ys ++ retained keep (i + 1) (drop (i + 1) ys) ≡ whole
+    leaves k e =
+        let same = set-get_or xs i d in
+        becomes (get_or xs i d) k (cc)
+
+    pub keeps : (x : A) → get_or xs i d ≡ Some x → keep i x ≡ true → ys ≡ xs
+        → take (i + 1) ys ++ retained keep (i + 1) (drop (i + 1) ys) ≡ whole
+    keeps x is k e = leaves (rw (is, k)) e
+
+    pub passes : get_or xs i d ≡ None → ys ≡ xs
+        → take (i + 1) ys ++ retained keep (i + 1) (drop (i + 1) ys) ≡ whole
+    passes is e = leaves (rw is) e
+
+  pub all_done : length xs ≤ i → xs ≡ whole
+  unfolding retained
+  all_done l =
+      let front = take_all i xs l in
+      let back = at_drop_all (retained keep i) xs i l in
+      let joined = append-nil xs in
+      cc
 
 module _ (keep : ℕ → Bool) where
-  -- the cells, by their numbers
-  module _ (xs ys whole : List (Option ℕ)) (i : ℕ) (within : i < length xs)
-      (before : take i xs ++ cells_kept keep i (drop i xs) ≡ whole) where
-    cell_done : (x : Option ℕ) → x ≡ cond (keep i) (get_or xs i None) None → ys ≡ set xs i x
-        → (length ys ≡ length xs) × (take (i + 1) ys ++ cells_kept keep (i + 1) (drop (i + 1) ys) ≡ whole)
-    unfolding cells_kept
-    cell_done x k e = (
-      ap length e ∙ length-set xs i x,
-      rw e (place_done (λ c x. cond (keep c) x None) (cells_kept keep) (λ i x xs. refl) xs i x None within k
-          ∙ before),
-    )
+  cell_retained : (i : ℕ) (c : Option ℕ) → retained_at (λ c _. keep c) i c ≡ cond (keep i) c None
+  cell_retained i None = cond_same (keep i)
+    where
+      cond_same : (b : Bool) → ◌≡◌ {A = Option ℕ} None (cond b None None)
+      cond_same true = refl
+      cond_same false = refl
+  cell_retained i (Some n) = refl
 
-    pub cell_emptied : keep i ≡ false → ys ≡ set xs i None
-        → (length ys ≡ length xs) × (take (i + 1) ys ++ cells_kept keep (i + 1) (drop (i + 1) ys) ≡ whole)
-    cell_emptied k e = cell_done None (rw k) e
+  record_retained : (i : ℕ) (r : Option Record) → retained_at (λ _. names_kept keep) i r ≡ record_kept keep r
+  record_retained i None = refl
+  record_retained i (Some r) = refl
 
-    pub cell_stays : keep i ≡ true → ys ≡ xs
-        → (length ys ≡ length xs) × (take (i + 1) ys ++ cells_kept keep (i + 1) (drop (i + 1) ys) ≡ whole)
-    cell_stays k e = cell_done (get_or xs i None) (rw k) (e ∙ sym (set-get_or xs i None))
+  cells_retained : (i : ℕ) (cs : List (Option ℕ)) → retained (λ c _. keep c) i cs ≡ cells_kept keep i cs
+  unfolding retained cells_kept
+  cells_retained i [] = refl
+  cells_retained i (c ∷ cs) =
+      let rest = cells_retained (i + 1) cs in
+      let this : retained_at (λ c _. keep c) i c ≡ cond (keep i) c None = cell_retained i c in
+      cc
 
-  pub cells_done : (xs whole : List (Option ℕ)) (i : ℕ) → length xs ≤ i
-      → take i xs ++ cells_kept keep i (drop i xs) ≡ whole → xs ≡ whole
-  unfolding cells_kept
-  cells_done = all_done (cells_kept keep) (λ i. refl)
+  records_retained : (i : ℕ) (rs : List (Option Record))
+      → retained (λ _. names_kept keep) i rs ≡ map (record_kept keep) rs
+  unfolding retained
+  records_retained i [] = refl
+  records_retained i (r ∷ rs) =
+      let rest = records_retained (i + 1) rs in
+      let this : retained_at (λ _. names_kept keep) i r ≡ record_kept keep r = record_retained i r in
+      cc
 
-  -- the records
-  pub record_done : (xs whole : List (Option Record)) (i : ℕ) (x : Option Record) → i < length xs
-      → x ≡ record_kept keep (get_or xs i None)
-      → take i xs ++ map (record_kept keep) (drop i xs) ≡ whole
-      → take (i + 1) (set xs i x) ++ map (record_kept keep) (drop (i + 1) (set xs i x)) ≡ whole
-  record_done xs whole i x l k w =
-      place_done (λ _. record_kept keep) (λ _. map (record_kept keep)) (λ i x xs. refl) xs i x None l k ∙ w
+  -- the heap that is left, and why it is well-formed
+  module _ (h : Meaning) (cs : List (Option ℕ)) (rs : List (Option Record))
+      (is-cells : cs ≡ retained (λ c _. keep c) 0 h.cells)
+      (is-records : rs ≡ retained (λ _. names_kept keep) 0 h.records) where
+    pub heap_left : heap_of cs rs ≡ emptied keep h
+    heap_left = rw (is-cells, is-records, cells_retained 0 h.cells, records_retained 0 h.records)
 
-  pub records_done : (xs whole : List (Option Record)) (i : ℕ) → length xs ≤ i
-      → take i xs ++ map (record_kept keep) (drop i xs) ≡ whole → xs ≡ whole
-  records_done = all_done (λ _. map (record_kept keep)) (λ i. refl)
-
-  -- the heap stays well-formed
-  pub formed_after : (h : Meaning) (cs : List (Option ℕ)) (rs : List (Option Record))
-      → cs ≡ cells_kept keep 0 h.cells → rs ≡ map (record_kept keep) h.records
-      → WellFormed h → WellFormed (heap_of cs rs)
-  formed_after h cs rs e f wf = rw (e, f) (emptied_formed keep h wf)
+    pub formed_after : WellFormed h → WellFormed (heap_of cs rs)
+    formed_after wf = rw heap_left (emptied_formed keep h wf)

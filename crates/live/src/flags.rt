@@ -3,18 +3,21 @@ ghost use Rattle.std.specs.Prelude.{◌≡◌};
 ghost use Rattle.model.specs.Sweeping.{names_kept};
 ghost use Rattle.live.specs.Flagged.{flagged};
 
-use crate::cells::CELLS;
+use model::heap::CELLS;
 use model::record::Record;
 
+// A flag for each cell.
+pub type Kept = [bool; CELLS as usize];
+
 // Whether a cell is kept; a number that is no cell's never is.
-pub fn is_kept(kept: &[bool; CELLS], cell: u16) -> bool
+pub fn is_kept(kept: &Kept, cell: u16) -> bool
     ensures { result ≡ flagged kept.now cell }
 {
-    (cell as usize) < CELLS && kept[cell as usize]
+    kept.get(usize::from(cell)).copied().unwrap_or(false)
 }
 
 // Whether every cell that the record names is kept.
-pub fn names_kept(kept: &[bool; CELLS], record: Record) -> bool
+pub fn names_kept(kept: &Kept, record: Record) -> bool
     ensures { result ≡ names_kept (flagged kept.now) «record» }
 {
     match record {

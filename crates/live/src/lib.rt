@@ -1,6 +1,5 @@
 #![tactic(auto)]
 
-mod cells;
 pub mod flags;
 pub mod live;
-mod records;
+mod table;

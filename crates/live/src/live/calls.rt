@@ -8,8 +8,7 @@ ghost use Rattle.live.specs.Live.{meaning_of};
 
 use super::LiveHeap;
 use super::arguments::{cell_size, link_strength};
-use crate::cells::Cells;
-use crate::records::Records;
+use crate::table::Table;
 use model::fault::Fault;
 use model::record::Record;
 
@@ -22,8 +21,8 @@ impl LiveHeap {
         ensures goes_with_the_model { (calls : List (Call List)) → Together (meaning_of result) empty_heap calls }
     {
         LiveHeap {
-            cells: Cells::new(),
-            records: Records::new(),
+            cells: Table::new(),
+            records: Table::new(),
         }
     }
 
@@ -35,7 +34,7 @@ impl LiveHeap {
     {
         let n = self.empty_cell(cell, 1)?;
         let size = cell_size(size, 2)?;
-        self.cells.fill(n, size);
+        self.cells.set(n, Some(size));
         Ok(())
     }
 
@@ -47,7 +46,7 @@ impl LiveHeap {
     {
         let n = self.free_record(record, 1)?;
         let target = self.filled_cell(target, 2)?;
-        self.records.fill(n, Record::Root { target });
+        self.records.set(n, Some(Record::Root { target }));
         Ok(())
     }
 
@@ -68,14 +67,12 @@ impl LiveHeap {
         let source = self.filled_cell(source, 2)?;
         let target = self.filled_cell(target, 3)?;
         let strength = link_strength(strength, 4)?;
-        self.records.fill(
-            n,
-            Record::Link {
-                source,
-                target,
-                strength,
-            },
-        );
+        let link = Record::Link {
+            source,
+            target,
+            strength,
+        };
+        self.records.set(n, Some(link));
         Ok(())
     }
 
@@ -90,8 +87,8 @@ impl LiveHeap {
         let table = self.filled_cell(table, 2)?;
         let key = self.filled_cell(key, 3)?;
         let value = self.filled_cell(value, 4)?;
-        self.records
-            .fill(n, Record::Ephemeron { table, key, value });
+        let ephemeron = Record::Ephemeron { table, key, value };
+        self.records.set(n, Some(ephemeron));
         Ok(())
     }
 
@@ -102,7 +99,7 @@ impl LiveHeap {
             erase_after (meaning_of self.old) «record» }
     {
         let n = self.held_record(record, 1)?;
-        self.records.clear(n);
+        self.records.set(n, None);
         Ok(())
     }
 }

@@ -1,7 +1,0 @@
--- past the end of the list there is nothing
-use Rattle.std.proofs.Common.{rules}
-use Rattle.std.proofs.lemmas.List.{get_or_past}
-use Rattle.live.proofs.live.answers.LiveHeapHeap.cell.Goals as goal
-
-pub returns-else-n-lt-CELLS : goal.returns-else-n-lt-CELLS
-returns-else-n-lt-CELLS c = search (rules, get_or_past)
