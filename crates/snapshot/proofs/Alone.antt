@@ -2,18 +2,16 @@
 use Rattle.std.proofs.Common.{◌≡◌, ℕ, zero, suc, ◌+◌, ◌-◌, ◌*◌, ◌/◌, ◌%◌, ◌<◌, ◌≤◌, true, eqb, List, length, get_or, drop, None, Option, sym, ap, ◌∙◌, inl, inr, arith}
 use Rattle.std.proofs.lemmas.List.{ext_get_or, get_or-drop}
 use Rattle.std.proofs.lemmas.Bool.{cases_lt, cases_eq, eqb-true}
-use Rattle.model.specs.declared.fault.Cause.TheVariants.{SectionLength}
-use Rattle.model.specs.Faults.{fault, unless, first}
 use Rattle.model.specs.Meaning.{Meaning}
 use Rattle.snapshot.specs.declared.header.Pair.{Pair}
 use Rattle.snapshot.specs.declared.header.Layout.{Layout}
 use Rattle.snapshot.specs.Numbers.{u16_at, u32_at}
-use Rattle.snapshot.specs.Header.{layout_of, end, section, lead, lengths_fault, header_fault}
+use Rattle.snapshot.specs.Header.{rows_of, layout_of, end, section, lead, lengths_fault, header_fault}
 use Rattle.snapshot.specs.Entries.{entries_fault}
 use Rattle.snapshot.specs.Laid.{cell_in, record_in, table, laid_down, file_fault}
 use Rattle.snapshot.specs.Alone.{Bytes}
-use Rattle.snapshot.proofs.Firsts.{first_none}
-use Rattle.snapshot.proofs.Order.{unless_none}
+use Rattle.model.proofs.Faults.{first_none}
+use Rattle.snapshot.proofs.Rows.{lengths_by_row, whole_at}
 use Rattle.snapshot.proofs.Tables.{table_at}
 use Rattle.snapshot.proofs.Shown.{four}
 use Rattle.snapshot.proofs.Opened.{Placed, Headed, headed, section_length, Clean, clean}
@@ -29,20 +27,12 @@ record Whole (l : Layout) : Type 0 where
 
 whole : (l : Layout) → lengths_fault l ≡ None → Whole l
 whole l e =
-    let a = eqb (l.cells.size % 8) 0 in
-    let b = eqb (l.roots.size % 4) 0 in
-    let c = eqb (l.links.size % 8) 0 in
-    let d = eqb (l.ephemerons.size % 8) 0 in
-    let p = first_none (unless a (fault SectionLength 4)) (first (unless b (fault SectionLength 12))
-    (first (unless c (fault SectionLength 20)) (unless d (fault SectionLength 28)))) e in
-    let q = first_none (unless b (fault SectionLength 12))
-    (first (unless c (fault SectionLength 20)) (unless d (fault SectionLength 28))) p.1 in
-    let r = first_none (unless c (fault SectionLength 20)) (unless d (fault SectionLength 28)) q.1 in
+    let rows = sym (lengths_by_row l) ∙ e in
     record {
-      cells = eqb-true _ _ (unless_none a (fault SectionLength 4) p.0);
-      roots = eqb-true _ _ (unless_none b (fault SectionLength 12) q.0);
-      links = eqb-true _ _ (unless_none c (fault SectionLength 20) r.0);
-      ephemerons = eqb-true _ _ (unless_none d (fault SectionLength 28) r.1);
+      cells = whole_at (rows_of l) rows 0 (omega arith);
+      roots = whole_at (rows_of l) rows 1 (omega arith);
+      links = whole_at (rows_of l) rows 2 (omega arith);
+      ephemerons = whole_at (rows_of l) rows 3 (omega arith);
     }
 
 -- what is known of a file without fault

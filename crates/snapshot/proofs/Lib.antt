@@ -1,6 +1,4 @@
-pub mod Places
 pub mod Halving
-pub mod Heads
 pub mod Firsts
 pub mod Order
 pub mod Tables
@@ -10,3 +8,6 @@ pub mod Halves
 pub mod Alike
 pub mod Owned
 pub mod Alone
+pub mod Entry
+pub mod Found
+pub mod Rows

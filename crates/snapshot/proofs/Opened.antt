@@ -1,5 +1,5 @@
 -- From what the parts of a file are found to be to what the file is.
-use Rattle.std.proofs.Common.{◌≡◌, ℕ, ◌+◌, ◌≤◌, true, ◌&&◌, eqb, leb, List, [], length, replicate, Some, None, Ok, Option, sym, refl, ap, ◌∙◌, arith, length-drop, length-take}
+use Rattle.std.proofs.Common.{◌≡◌, ℕ, ◌≤◌, true, ◌&&◌, ◌==◌, leb, List, [], length, replicate, Some, None, Ok, Option, sym, refl, ap, ◌∙◌, arith, length-drop, length-take}
 use Rattle.std.proofs.lemmas.Bool.{and_parts, leb-true, eqb-true}
 use Rattle.model.specs.declared.fault.Fault.{Fault}
 use Rattle.model.specs.declared.fault.Cause.TheVariants.{FileLength, LeadBytes, SectionPlace}
@@ -9,12 +9,13 @@ use Rattle.model.specs.Calls.{empty_heap}
 use Rattle.snapshot.specs.declared.header.Pair.{Pair}
 use Rattle.snapshot.specs.declared.header.Layout.{Layout}
 use Rattle.snapshot.specs.Sections.{which}
-use Rattle.snapshot.specs.Header.{layout_of, end, section, lead}
+use Rattle.snapshot.specs.Header.{rows_of, layout_of, end, section, lead}
 use Rattle.snapshot.specs.Header.{file_length_fault, places_fault, lengths_fault, pairs_fault, header_fault}
-use Rattle.snapshot.specs.Entries.{cells_fault, roots_fault, links_fault, ephemerons_fault, entries_fault}
+use Rattle.snapshot.specs.Entries.{first_of, cells_fault, roots_fault, links_fault, ephemerons_fault, entries_fault}
 use Rattle.snapshot.specs.Laid.{cell_in, record_in, table, laid, file_fault}
-use Rattle.snapshot.proofs.Firsts.{first_none}
+use Rattle.model.proofs.Faults.{first_none}
 use Rattle.snapshot.proofs.Order.{unless_none}
+use Rattle.snapshot.proofs.Rows.{place_fault, places_by_row, starts_at}
 use Rattle.snapshot.proofs.Tables.{table_none}
 
 pub ok_is : {A : Type 0} (o : Option Fault) (a b : A) → Ok b ≡ answer o a → b ≡ a
@@ -27,23 +28,15 @@ file_head bs f h = ap (λ (o : Option Fault). first o (entries_fault (layout_of 
     (section bs (layout_of bs).cells) (section bs (layout_of bs).roots)
     (section bs (layout_of bs).links) (section bs (layout_of bs).ephemerons))) h
 
-pub file_entries : (bs : List ℕ) (l : Layout) (cs rs ls es : List ℕ) → header_fault bs ≡ None →
-    l ≡ layout_of bs →
-    cs ≡ section bs l.cells → rs ≡ section bs l.roots →
-    ls ≡ section bs l.links → es ≡ section bs l.ephemerons →
-    file_fault bs ≡ entries_fault l cs rs ls es
-file_entries bs l cs rs ls es h e a b c d =
+pub file_entries : (bs : List ℕ) (l : Layout) → header_fault bs ≡ None → l ≡ layout_of bs →
+    file_fault bs ≡ entries_fault l (section bs l.cells) (section bs l.roots)
+    (section bs l.links) (section bs l.ephemerons)
+file_entries bs l h e =
     ap (λ (o : Option Fault). first o (entries_fault (layout_of bs)
     (section bs (layout_of bs).cells) (section bs (layout_of bs).roots)
     (section bs (layout_of bs).links) (section bs (layout_of bs).ephemerons))) h
-    ∙ (ap (λ (m : Layout). entries_fault m
-    (section bs m.cells) (section bs m.roots) (section bs m.links)
-    (section bs m.ephemerons)) (sym e)
-    ∙ (ap (λ (x : List ℕ). entries_fault l x
-    (section bs l.roots) (section bs l.links) (section bs l.ephemerons)) (sym a)
-    ∙ (ap (λ (x : List ℕ). entries_fault l cs x (section bs l.links) (section bs l.ephemerons)) (sym b)
-    ∙ (ap (λ (x : List ℕ). entries_fault l cs rs x (section bs l.ephemerons)) (sym c)
-    ∙ ap (λ (x : List ℕ). entries_fault l cs rs ls x) (sym d)))))
+    ∙ ap (λ (m : Layout). entries_fault m (section bs m.cells) (section bs m.roots)
+    (section bs m.links) (section bs m.ephemerons)) (sym e)
 
 -- the sections of a good head lie in the file
 pub record Placed (l : Layout) (n : ℕ) : Type 0 where
@@ -55,23 +48,15 @@ pub record Placed (l : Layout) (n : ℕ) : Type 0 where
 
 pub placed : (l : Layout) (n : ℕ) → places_fault l n ≡ None → Placed l n
 placed l n e =
-    let a = eqb l.cells.offset 36 in
-    let b = eqb l.roots.offset (end l.cells) in
-    let c = eqb l.links.offset (end l.roots) in
-    let d = eqb l.ephemerons.offset (end l.links) in
-    let z = eqb (end l.ephemerons) n in
-    let p = first_none (unless a (fault SectionPlace 4)) (first (unless b (fault SectionPlace 12))
-    (first (unless c (fault SectionPlace 20)) (unless (d && z) (fault SectionPlace 28)))) e in
-    let q = first_none (unless b (fault SectionPlace 12))
-    (first (unless c (fault SectionPlace 20)) (unless (d && z) (fault SectionPlace 28))) p.1 in
-    let r = first_none (unless c (fault SectionPlace 20)) (unless (d && z) (fault SectionPlace 28)) q.1 in
-    let s = and_parts d z (unless_none (d && z) (fault SectionPlace 28) r.1) in
+    let z = end l.ephemerons == n in
+    let p = first_none (first_of (place_fault (rows_of l)) 4) (unless z (fault SectionPlace 28))
+    (sym (places_by_row l n) ∙ e) in
     record {
-      first_at = eqb-true _ _ (unless_none a (fault SectionPlace 4) p.0);
-      second_at = eqb-true _ _ (unless_none b (fault SectionPlace 12) q.0);
-      third_at = eqb-true _ _ (unless_none c (fault SectionPlace 20) r.0);
-      fourth_at = eqb-true _ _ s.0;
-      last_ends = eqb-true _ _ s.1;
+      first_at = starts_at (rows_of l) p.0 0 (omega arith);
+      second_at = starts_at (rows_of l) p.0 1 (omega arith);
+      third_at = starts_at (rows_of l) p.0 2 (omega arith);
+      fourth_at = starts_at (rows_of l) p.0 3 (omega arith);
+      last_ends = eqb-true _ _ (unless_none z (fault SectionPlace 28) p.1);
     }
 
 -- what no fault of the head says
@@ -102,10 +87,6 @@ headed bs e =
 
 pub section_length : (bs : List ℕ) (p : Pair) → end p ≤ length bs → length (section bs p) ≡ p.size
 section_length bs p l = simp (length-take, length-drop) (omega arith)
-
-pub cut_within : (bs s : List ℕ) (p : Pair) → s ≡ section bs p → end p ≤ length bs → length bs ≤ 65536 →
-    p.offset + length s ≤ 65536
-cut_within bs s p e l m = let f : length s ≡ p.size = ap length e ∙ section_length bs p l in omega arith
 
 -- no fault among the entries is none in any section
 pub record Clean (l : Layout) (cs rs ls es : List ℕ) : Type 0 where

@@ -5,12 +5,14 @@ use Rattle.model.specs.declared.fault.Fault.{Fault}
 use Rattle.model.specs.declared.fault.Cause.TheVariants.{FieldRange, NumberOrder, RecordTwice, CellMissing}
 use Rattle.model.specs.Faults.{fault, unless, first}
 use Rattle.snapshot.specs.Numbers.{u32_at}
-use Rattle.snapshot.specs.Sections.{field, number, entries, rises, has, Rising, Sorted}
-use Rattle.snapshot.specs.Entries.{judged, cell_fits, root_fits, link_fits, ephemeron_fits}
+use Rattle.snapshot.specs.Sections.{field, number, entry, entries, rises, has, Rising, Sorted}
+use Rattle.snapshot.specs.Entries.{judged, first_of, entry_fault}
+use Rattle.snapshot.specs.Entries.{cell_fits, root_fits, link_fits, ephemeron_fits}
 use Rattle.snapshot.specs.Entries.{cell_entry_fault, root_entry_fault}
 use Rattle.snapshot.specs.Entries.{link_entry_fault, ephemeron_entry_fault}
 use Rattle.snapshot.specs.Entries.{cells_fault, roots_fault, links_fault, ephemerons_fault}
-use Rattle.snapshot.proofs.Firsts.{first_none, none_at}
+use Rattle.model.proofs.Faults.{first_none}
+use Rattle.snapshot.proofs.Firsts.{none_at}
 
 pub unless_none : (b : Bool) (f : Fault) → unless b f ≡ None → b ≡ true
 unless_none true f e = refl
@@ -38,6 +40,14 @@ passed place a b c d e =
     }
 
 -- what each entry passed, in a section without fault
+entry_passed : (fits fresh present : List ℕ → Bool) (w : ℕ) (s : List ℕ) (i : ℕ) →
+    first_of (entry_fault fits fresh present w s i) (entries w s) ≡ None → (k : ℕ) → k < entries w s →
+    Passed (fits (entry w s k)) (rises (number w s) k) (fresh (entry w s k)) (present (entry w s k))
+entry_passed fits fresh present w s i h k l = passed (i + w * k)
+    (fits (entry w s k)) (rises (number w s) k) (fresh (entry w s k)) (present (entry w s k))
+    (none_at (entry_fault fits fresh present w s i) (entries w s) h k l)
+
+-- the same by kind
 pub cell_passed : (cs : List ℕ) (i : ℕ) → cells_fault cs i ≡ None → (k : ℕ) → k < entries 8 cs →
     Passed (cell_fits (number 8 cs k) (field 8 cs k 2) (u32_at cs (8 * k + 4)))
     (rises (number 8 cs) k) true true
@@ -77,6 +87,11 @@ ephemeron_passed cs rs ls es i h k l = passed (i + 8 * k)
 -- numbers that rise at each entry
 rising : (num : ℕ → ℕ) (n : ℕ) → ((k : ℕ) → k < n → rises num k ≡ true) → Rising num n
 rising num n h k l = ltb-true (num k) (num (suc k)) (h (suc k) l)
+
+pub section_sorted : (fits fresh present : List ℕ → Bool) (w : ℕ) (s : List ℕ) (i : ℕ) →
+    first_of (entry_fault fits fresh present w s i) (entries w s) ≡ None → Sorted w s
+section_sorted fits fresh present w s i h = rising (number w s) (entries w s)
+    (λ k l. (entry_passed fits fresh present w s i h k l).above)
 
 pub cells_sorted : (cs : List ℕ) (i : ℕ) → cells_fault cs i ≡ None → Sorted 8 cs
 cells_sorted cs i h = rising (number 8 cs) (entries 8 cs) (λ k l. (cell_passed cs i h k l).above)

@@ -11,7 +11,7 @@ use Rattle.model.specs.Faults.{fault, unless, first}
 use Rattle.model.specs.Meaning.{size_fits}
 use Rattle.snapshot.specs.declared.header.Layout.{Layout}
 use Rattle.snapshot.specs.Numbers.{u32_at}
-use Rattle.snapshot.specs.Sections.{field, number, entries, rises, has}
+use Rattle.snapshot.specs.Sections.{field, number, entry, entries, rises, has}
 
 -- within an entry: each field in its range, the number above the one before, the record
 -- in no earlier section, and each named cell among the file's
@@ -34,7 +34,17 @@ link_fits r s t k = nat_lt r 4096 && (nat_lt s 1024 && (nat_lt t 1024 && nat_lt 
 abbrev pub ephemeron_fits : ℕ → ℕ → ℕ → ℕ → Bool
 ephemeron_fits r a b v = nat_lt r 4096 && (nat_lt a 1024 && (nat_lt b 1024 && nat_lt v 1024))
 
--- the fault of entry k, if any, in a section that starts at byte i of the file
+-- the fault of entry k, if any, in a section of entries of w bytes that starts at byte i of
+-- the file, where the tests judge the bytes of an entry
+abbrev pub entry_fault : (List ℕ → Bool) → (List ℕ → Bool) → (List ℕ → Bool) → ℕ → List ℕ → ℕ → ℕ → Option Fault
+entry_fault fits fresh present w s i k =
+    judged (i + w * k)
+    (fits (entry w s k))
+    (rises (number w s) k)
+    (fresh (entry w s k))
+    (present (entry w s k))
+
+-- the same by kind
 abbrev pub cell_entry_fault : List ℕ → ℕ → ℕ → Option Fault
 cell_entry_fault cs i k =
     judged (i + 8 * k)

@@ -2,7 +2,7 @@
 -- bytes. Behind them stand four pairs, each an offset in the file and a length, for the
 -- sections of cells, roots, links and ephemerons. The first section starts at byte 36,
 -- each other where the one before ends, and the last ends with the file.
-use Rattle.std.specs.Prelude.{ℕ, ◌+◌, ◌%◌, Bool, ◌&&◌, List, length, take, drop, Option, ◌==◌, nat_le, slice_index}
+use Rattle.std.specs.Prelude.{ℕ, ◌+◌, ◌%◌, Bool, ◌&&◌, List, [], ◌∷◌, length, take, drop, Option, ◌==◌, nat_le, slice_index}
 use Rattle.model.specs.declared.fault.Fault.{Fault}
 use Rattle.model.specs.declared.fault.Cause.TheVariants.{FileLength, LeadBytes, SectionPlace, SectionLength}
 use Rattle.model.specs.Faults.{fault, unless, first}
@@ -21,6 +21,11 @@ pairs_of rest = record {
   links = pair_at rest 16;
   ephemerons = pair_at rest 24;
 }
+
+-- the pairs, each with the byte where it begins and with the width of its section's entries
+abbrev pub rows_of : Layout → List (Pair × ℕ × ℕ)
+rows_of l =
+    (l.cells, 4, 8) ∷ (l.roots, 12, 4) ∷ (l.links, 20, 8) ∷ (l.ephemerons, 28, 8) ∷ []
 
 abbrev pub layout_of : List ℕ → Layout
 layout_of bs = pairs_of (drop 4 bs)

@@ -1,6 +1,6 @@
 -- A section is a run of entries of one width. An entry has fields of 16 bits, the
 -- first of them its number, and the numbers rise from entry to entry.
-use Rattle.std.specs.Prelude.{ℕ, zero, suc, ◌+◌, ◌*◌, ◌/◌, ◌<◌, Bool, true, cond, List, length, is_some, Some, None, Option, ◌==◌, nat_lt}
+use Rattle.std.specs.Prelude.{ℕ, zero, suc, ◌+◌, ◌*◌, ◌/◌, ◌<◌, Bool, true, cond, List, length, take, drop, is_some, Some, None, Option, ◌==◌, nat_lt}
 use Rattle.snapshot.specs.Numbers.{u16_at}
 
 -- the field at byte f of entry k, where entries are w bytes wide
@@ -9,6 +9,10 @@ field w s k f = u16_at s (w * k + f)
 
 abbrev pub number : ℕ → List ℕ → ℕ → ℕ
 number w s k = field w s k 0
+
+-- the bytes of entry k
+abbrev pub entry : ℕ → List ℕ → ℕ → List ℕ
+entry w s k = take w (drop (w * k) s)
 
 -- how many entries there are
 abbrev pub entries : ℕ → List ℕ → ℕ

@@ -1,81 +1,157 @@
-// The entries of a file judged one after the other.
-ghost use Rattle.std.specs.Prelude.{◌≡◌, ◌+◌, ◌≤◌, length};
-ghost use Rattle.model.specs.Faults.{answer};
-ghost use Rattle.snapshot.specs.Sections.{Sorted};
-ghost use Rattle.snapshot.specs.Entries.{cells_fault, roots_fault, links_fault};
-ghost use Rattle.snapshot.specs.Entries.{ephemerons_fault, entries_fault};
+// The four kinds of entries.
+ghost use Rattle.std.specs.Prelude.{◌&&◌, true, not};
+ghost use Rattle.snapshot.specs.Numbers.{u16_at, u32_at};
+ghost use Rattle.snapshot.specs.Sections.{has};
+ghost use Rattle.snapshot.specs.Entries.{cell_fits, root_fits, link_fits, ephemeron_fits};
+ghost use Rattle.snapshot.specs.Entries.{cells_fault, roots_fault, links_fault, ephemerons_fault};
+ghost use Rattle.snapshot.specs.Judged.{cells_judged, roots_judged, links_judged, ephemerons_judged};
 
-use crate::entry::{check_cell, check_ephemeron, check_link, check_root};
-use crate::header::Layout;
-use crate::section::{CELL, EPHEMERON, LINK, ROOT};
-use model::fault::Fault;
+use crate::kind::Kind;
+use crate::numbers::{u16_at, u32_at};
+use crate::sorted::SortedSection;
+use model::heap::{CELLS, LARGEST_SIZE, RECORDS};
+use model::record::Strength;
 
-fn check_cells(cells: &[u8], start: u32) -> Result<(), Fault>
-    requires { start + length cells.now ≤ 65536 }
-    ensures { result ≡ answer (cells_fault cells.now start) tt }
-{
-    for i in 0..cells.len() / CELL {
-        check_cell(cells, start, i)?;
+// How many bytes an entry has, by its kind.
+pub(crate) const CELL: usize = 8;
+
+pub(crate) const ROOT: usize = 4;
+
+pub(crate) const LINK: usize = 8;
+
+pub(crate) const EPHEMERON: usize = 8;
+
+// A cell's number, a field that is 0, and the size.
+#[derive(Clone, Copy)]
+pub(crate) struct Cells;
+
+impl Kind<CELL> for Cells {
+    ghost fits = { λ _ e. cell_fits (u16_at e 0) (u16_at e 2) (u32_at e 4) };
+
+    ghost is_new = { λ _ _. true };
+
+    ghost names_cells = { λ _ _. true };
+
+    ghost fault = { λ _ s i. cells_fault s i };
+
+    fn fits(&self, cell: &[u8; CELL]) -> bool {
+        u16_at(cell, 0) < CELLS
+            && u16_at(cell, 2) == 0
+            && (1..=LARGEST_SIZE).contains(&u32_at(cell, 4))
     }
-    Ok(())
+
+    fn is_new(&self, _cell: &[u8; CELL]) -> bool {
+        true
+    }
+
+    fn names_cells(&self, _cell: &[u8; CELL]) -> bool {
+        true
+    }
+
+    ghost judges = { λ _ s i. cells_judged s i };
 }
 
-fn check_roots(cells: &[u8], roots: &[u8], start: u32) -> Result<(), Fault>
-    requires { (start + length roots.now ≤ 65536) × (Sorted 8 cells.now) }
-    ensures { result ≡ answer (roots_fault cells.now roots.now start) tt }
-{
-    for i in 0..roots.len() / ROOT {
-        check_root(cells, roots, start, i)?;
-    }
-    Ok(())
+// A root's number and its target.
+#[derive(Clone, Copy)]
+pub(crate) struct Roots<'a> {
+    pub(crate) cells: &'a SortedSection<'a, CELL>,
 }
 
-fn check_links(cells: &[u8], roots: &[u8], links: &[u8], start: u32) -> Result<(), Fault>
-    requires { (start + length links.now ≤ 65536) × ((Sorted 8 cells.now) × (Sorted 4 roots.now)) }
-    ensures { result ≡ answer
-        (links_fault cells.now roots.now links.now start) tt }
-{
-    for i in 0..links.len() / LINK {
-        check_link(cells, roots, links, start, i)?;
+impl<'a> Kind<ROOT> for Roots<'a> {
+    ghost fits = { λ _ e. root_fits (u16_at e 0) (u16_at e 2) };
+
+    ghost is_new = { λ _ _. true };
+
+    ghost names_cells = { λ k e. has 8 k.cells.now.bytes.now (u16_at e 2) };
+
+    ghost fault = { λ k s i. roots_fault k.cells.now.bytes.now s i };
+
+    fn fits(&self, root: &[u8; ROOT]) -> bool {
+        u16_at(root, 0) < RECORDS && u16_at(root, 2) < CELLS
     }
-    Ok(())
+
+    fn is_new(&self, _root: &[u8; ROOT]) -> bool {
+        true
+    }
+
+    fn names_cells(&self, root: &[u8; ROOT]) -> bool {
+        self.cells.contains(u16_at(root, 2))
+    }
+
+    ghost judges = { λ k s i. roots_judged k.cells.now.bytes.now s i };
 }
 
-fn check_ephemerons(
-    cells: &[u8],
-    roots: &[u8],
-    links: &[u8],
-    ephemerons: &[u8],
-    start: u32,
-) -> Result<(), Fault>
-    requires ephemerons_bound { start + length ephemerons.now ≤ 65536 }
-    requires sorted { (Sorted 8 cells.now) × ((Sorted 4 roots.now) × (Sorted 8 links.now)) }
-    ensures { result ≡ answer (ephemerons_fault
-        cells.now roots.now links.now ephemerons.now start) tt }
-{
-    for i in 0..ephemerons.len() / EPHEMERON {
-        check_ephemeron(cells, roots, links, ephemerons, start, i)?;
-    }
-    Ok(())
+// A link's number, source, target and strength.
+#[derive(Clone, Copy)]
+pub(crate) struct Links<'a> {
+    pub(crate) cells: &'a SortedSection<'a, CELL>,
+    pub(crate) roots: &'a SortedSection<'a, ROOT>,
 }
 
-// All entries of a file, whose sections lie where the layout says.
-pub(crate) fn check_entries(
-    layout: Layout,
-    cells: &[u8],
-    roots: &[u8],
-    links: &[u8],
-    ephemerons: &[u8],
-) -> Result<(), Fault>
-    requires cells_bound { layout.cells.offset + length cells.now ≤ 65536 }
-    requires roots_bound { layout.roots.offset + length roots.now ≤ 65536 }
-    requires links_bound { layout.links.offset + length links.now ≤ 65536 }
-    requires ephemerons_bound { layout.ephemerons.offset + length ephemerons.now ≤ 65536 }
-    ensures { result ≡ answer (entries_fault layout
-        cells.now roots.now links.now ephemerons.now) tt }
-{
-    check_cells(cells, layout.cells.offset)?;
-    check_roots(cells, roots, layout.roots.offset)?;
-    check_links(cells, roots, links, layout.links.offset)?;
-    check_ephemerons(cells, roots, links, ephemerons, layout.ephemerons.offset)
+impl<'a> Kind<LINK> for Links<'a> {
+    ghost fits = { λ _ e. link_fits (u16_at e 0) (u16_at e 2) (u16_at e 4) (u16_at e 6) };
+
+    ghost is_new = { λ k e. not (has 4 k.roots.now.bytes.now (u16_at e 0)) };
+
+    ghost names_cells = { λ k e. has 8 k.cells.now.bytes.now (u16_at e 2) &&
+        has 8 k.cells.now.bytes.now (u16_at e 4) };
+
+    ghost fault = { λ k s i. links_fault k.cells.now.bytes.now k.roots.now.bytes.now s i };
+
+    fn fits(&self, link: &[u8; LINK]) -> bool {
+        u16_at(link, 0) < RECORDS
+            && u16_at(link, 2) < CELLS
+            && u16_at(link, 4) < CELLS
+            && Strength::try_from(u32::from(u16_at(link, 6))).is_ok()
+    }
+
+    fn is_new(&self, link: &[u8; LINK]) -> bool {
+        !self.roots.contains(u16_at(link, 0))
+    }
+
+    fn names_cells(&self, link: &[u8; LINK]) -> bool {
+        self.cells.contains(u16_at(link, 2)) && self.cells.contains(u16_at(link, 4))
+    }
+
+    ghost judges = { λ k s i. links_judged k.cells.now.bytes.now k.roots.now.bytes.now s i };
+}
+
+// An ephemeron's number, table, key and value.
+#[derive(Clone, Copy)]
+pub(crate) struct Ephemerons<'a> {
+    pub(crate) cells: &'a SortedSection<'a, CELL>,
+    pub(crate) roots: &'a SortedSection<'a, ROOT>,
+    pub(crate) links: &'a SortedSection<'a, LINK>,
+}
+
+impl<'a> Kind<EPHEMERON> for Ephemerons<'a> {
+    ghost fits = { λ _ e. ephemeron_fits (u16_at e 0) (u16_at e 2) (u16_at e 4) (u16_at e 6) };
+
+    ghost is_new = { λ k e. not (has 4 k.roots.now.bytes.now (u16_at e 0)) &&
+        not (has 8 k.links.now.bytes.now (u16_at e 0)) };
+
+    ghost names_cells = { λ k e. has 8 k.cells.now.bytes.now (u16_at e 2) &&
+        (has 8 k.cells.now.bytes.now (u16_at e 4) && has 8 k.cells.now.bytes.now (u16_at e 6)) };
+
+    ghost fault = { λ k s i. ephemerons_fault k.cells.now.bytes.now k.roots.now.bytes.now k.links.now.bytes.now s i };
+
+    fn fits(&self, ephemeron: &[u8; EPHEMERON]) -> bool {
+        u16_at(ephemeron, 0) < RECORDS
+            && u16_at(ephemeron, 2) < CELLS
+            && u16_at(ephemeron, 4) < CELLS
+            && u16_at(ephemeron, 6) < CELLS
+    }
+
+    fn is_new(&self, ephemeron: &[u8; EPHEMERON]) -> bool {
+        let number = u16_at(ephemeron, 0);
+        !self.roots.contains(number) && !self.links.contains(number)
+    }
+
+    fn names_cells(&self, ephemeron: &[u8; EPHEMERON]) -> bool {
+        self.cells.contains(u16_at(ephemeron, 2))
+            && self.cells.contains(u16_at(ephemeron, 4))
+            && self.cells.contains(u16_at(ephemeron, 6))
+    }
+
+    ghost judges = { λ k s i. ephemerons_judged k.cells.now.bytes.now k.roots.now.bytes.now k.links.now.bytes.now s i };
 }

@@ -1,12 +1,12 @@
 // The head of a file: where its sections lie.
 ghost use Rattle.std.specs.Prelude.{◌≡◌, ◌+◌, ◌≤◌, length};
 ghost use Rattle.model.specs.Faults.{answer};
-ghost use Rattle.snapshot.specs.Header.{pair_at, pairs_of, layout_of, end, section};
+ghost use Rattle.snapshot.specs.Header.{pair_at, pairs_of, rows_of, layout_of, end, section};
 ghost use Rattle.snapshot.specs.Header.{places_fault, lengths_fault, pairs_fault, header_fault};
 
-use crate::faulty::faulty;
+use crate::entries::{CELL, EPHEMERON, LINK, ROOT};
 use crate::numbers::u32_at;
-use crate::section::{CELL, EPHEMERON, LINK, ROOT};
+use crate::section::Section;
 use model::fault::{Cause, Fault};
 
 // The lead bytes and the pairs, which the first section follows.
@@ -56,12 +56,19 @@ impl Pair {
         self.offset as usize + self.size as usize
     }
 
-    // The bytes of the section.
-    pub(crate) fn cut(self, bytes: &[u8]) -> &[u8]
-        requires { end self ≤ length bytes.now }
-        ensures { result.now ≡ section bytes.now self }
+    // The section of a file, whose entries have WIDTH bytes.
+    pub(crate) fn section<const WIDTH: usize>(self, bytes: &[u8]) -> Section<WIDTH>
+        requires numbered { 2 ≤ WIDTH }
+        requires narrow { WIDTH ≤ 8 }
+        requires short { length bytes.now ≤ 65536 }
+        requires within { end self ≤ length bytes.now }
+        ensures start { result.start ≡ self.offset }
+        ensures bytes { result.bytes.now ≡ section bytes.now self }
     {
-        &bytes[self.offset as usize..self.end()]
+        Section {
+            start: self.offset,
+            bytes: &bytes[self.offset as usize..self.end()],
+        }
     }
 }
 
@@ -79,24 +86,33 @@ impl Layout {
         }
     }
 
+    // The pairs, each with the byte where it begins and with how many bytes its
+    // entries have.
+    fn rows(self) -> [(Pair, u32, usize); 4]
+        ensures { result ≡ rows_of self }
+    {
+        [
+            (self.cells, CELLS_PAIR, CELL),
+            (self.roots, ROOTS_PAIR, ROOT),
+            (self.links, LINKS_PAIR, LINK),
+            (self.ephemerons, EPHEMERONS_PAIR, EPHEMERON),
+        ]
+    }
+
     // The sections follow one another up to the file's end.
     fn check_places(self, len: usize) -> Result<(), Fault>
         ensures { result ≡ answer (places_fault self len) tt }
     {
-        if self.cells.offset as usize != HEAD {
-            return faulty(Cause::SectionPlace, CELLS_PAIR);
+        let cause = Cause::SectionPlace;
+        let mut end = HEAD;
+        for &(pair, place, _) in &self.rows() {
+            if pair.offset as usize != end {
+                return Err(cause.at(place));
+            }
+            end = pair.end();
         }
-        if self.roots.offset as usize != self.cells.end() {
-            return faulty(Cause::SectionPlace, ROOTS_PAIR);
-        }
-        if self.links.offset as usize != self.roots.end() {
-            return faulty(Cause::SectionPlace, LINKS_PAIR);
-        }
-        if self.ephemerons.offset as usize != self.links.end() {
-            return faulty(Cause::SectionPlace, EPHEMERONS_PAIR);
-        }
-        if self.ephemerons.end() != len {
-            return faulty(Cause::SectionPlace, EPHEMERONS_PAIR);
+        if end != len {
+            return Err(cause.at(EPHEMERONS_PAIR));
         }
         Ok(())
     }
@@ -105,17 +121,10 @@ impl Layout {
     fn check_lengths(self) -> Result<(), Fault>
         ensures { result ≡ answer (lengths_fault self) tt }
     {
-        if self.cells.size as usize % CELL != 0 {
-            return faulty(Cause::SectionLength, CELLS_PAIR);
-        }
-        if self.roots.size as usize % ROOT != 0 {
-            return faulty(Cause::SectionLength, ROOTS_PAIR);
-        }
-        if self.links.size as usize % LINK != 0 {
-            return faulty(Cause::SectionLength, LINKS_PAIR);
-        }
-        if self.ephemerons.size as usize % EPHEMERON != 0 {
-            return faulty(Cause::SectionLength, EPHEMERONS_PAIR);
+        for &(pair, place, width) in &self.rows() {
+            if pair.size as usize % width != 0 {
+                return Err(Cause::SectionLength.at(place));
+            }
         }
         Ok(())
     }
@@ -133,11 +142,11 @@ impl Layout {
     pub fn of(bytes: &[u8]) -> Result<Self, Fault>
         ensures { result ≡ answer (header_fault bytes.now) (layout_of bytes.now) }
     {
-        if bytes.len() < HEAD || bytes.len() > LONGEST {
-            return faulty(Cause::FileLength, 0);
+        if !(HEAD..=LONGEST).contains(&bytes.len()) {
+            return Err(Cause::FileLength.at(0));
         }
         let [69, 72, 1, 4, rest @ ..] = bytes else {
-            return faulty(Cause::LeadBytes, 0);
+            return Err(Cause::LeadBytes.at(0));
         };
         Layout::pairs(rest).checked(bytes.len())
     }

@@ -1,10 +1,10 @@
 #![tactic(auto)]
 
 mod entries;
-mod entry;
-mod faulty;
 mod header;
+mod kind;
 mod lookup;
 mod numbers;
 mod section;
 pub mod snapshot;
+mod sorted;

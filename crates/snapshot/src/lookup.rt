@@ -1,73 +1,64 @@
 // What the entries of sorted sections say of a number.
 ghost use Rattle.std.specs.Prelude.{◌≡◌};
-ghost use Rattle.model.specs.Strengths.{strength_of};
-ghost use Rattle.snapshot.specs.Sections.{Sorted};
 ghost use Rattle.snapshot.specs.Laid.{cell_in, root_in, link_in, ephemeron_in, record_in};
 
-use crate::numbers::u32_at;
-use crate::section::{CELL, EPHEMERON, LINK, ROOT, field_at, find};
+use crate::entries::{CELL, EPHEMERON, LINK, ROOT};
+use crate::numbers::{u16_at, u32_at};
+use crate::sorted::SortedSection;
 use model::record::{Record, Strength};
 
 // The size of cell `n`.
-pub(crate) fn cell_in(cells: &[u8], n: u16) -> Option<u32>
-    requires { Sorted 8 cells.now }
-    ensures { result ≡ cell_in cells.now n }
+pub(crate) fn cell_in(cells: &SortedSection<CELL>, n: u16) -> Option<u32>
+    ensures { result ≡ cell_in cells.now.bytes.now n }
 {
-    let i = find(cells, CELL, n)?;
-    Some(u32_at(cells, CELL * i + 4))
+    let cell = cells.find(n)?;
+    Some(u32_at(cell, 4))
 }
 
-fn root_in(roots: &[u8], n: u16) -> Option<Record>
-    requires { Sorted 4 roots.now }
-    ensures { result ≡ root_in roots.now n }
+// Each kind of record has fields of its own, so each is read by a function of its own.
+fn root_in(roots: &SortedSection<ROOT>, n: u16) -> Option<Record>
+    ensures { result ≡ root_in roots.now.bytes.now n }
 {
-    let i = find(roots, ROOT, n)?;
+    let root = roots.find(n)?;
     Some(Record::Root {
-        target: field_at(roots, ROOT, i, 2),
+        target: u16_at(root, 2),
     })
 }
 
-// A file that was found without fault has no other strengths than these four.
-fn strength(number: u16) -> Strength
-    ensures { result ≡ strength_of number }
+fn link_in(links: &SortedSection<LINK>, n: u16) -> Option<Record>
+    ensures { result ≡ link_in links.now.bytes.now n }
 {
-    match number {
-        0 => Strength::Strong,
-        1 => Strength::Soft,
-        2 => Strength::Weak,
-        _ => Strength::Phantom,
-    }
-}
-
-fn link_in(links: &[u8], n: u16) -> Option<Record>
-    requires { Sorted 8 links.now }
-    ensures { result ≡ link_in links.now n }
-{
-    let i = find(links, LINK, n)?;
+    let link = links.find(n)?;
+    // In a file without fault each of these numbers is a strength's.
+    let strength = Strength::try_from(u32::from(u16_at(link, 6))).unwrap_or(Strength::Phantom);
     Some(Record::Link {
-        source: field_at(links, LINK, i, 2),
-        target: field_at(links, LINK, i, 4),
-        strength: strength(field_at(links, LINK, i, 6)),
+        source: u16_at(link, 2),
+        target: u16_at(link, 4),
+        strength,
     })
 }
 
-fn ephemeron_in(ephemerons: &[u8], n: u16) -> Option<Record>
-    requires { Sorted 8 ephemerons.now }
-    ensures { result ≡ ephemeron_in ephemerons.now n }
+fn ephemeron_in(ephemerons: &SortedSection<EPHEMERON>, n: u16) -> Option<Record>
+    ensures { result ≡ ephemeron_in ephemerons.now.bytes.now n }
 {
-    let i = find(ephemerons, EPHEMERON, n)?;
+    let ephemeron = ephemerons.find(n)?;
     Some(Record::Ephemeron {
-        table: field_at(ephemerons, EPHEMERON, i, 2),
-        key: field_at(ephemerons, EPHEMERON, i, 4),
-        value: field_at(ephemerons, EPHEMERON, i, 6),
+        table: u16_at(ephemeron, 2),
+        key: u16_at(ephemeron, 4),
+        value: u16_at(ephemeron, 6),
     })
 }
 
 // Record `n`, which stands in one section only.
-pub(crate) fn record_in(roots: &[u8], links: &[u8], ephemerons: &[u8], n: u16) -> Option<Record>
-    requires { (Sorted 4 roots.now) × ((Sorted 8 links.now) × (Sorted 8 ephemerons.now)) }
-    ensures { result ≡ record_in roots.now links.now ephemerons.now n }
+pub(crate) fn record_in(
+    roots: &SortedSection<ROOT>,
+    links: &SortedSection<LINK>,
+    ephemerons: &SortedSection<EPHEMERON>,
+    n: u16,
+) -> Option<Record>
+    ensures { result ≡ record_in roots.now.bytes.now links.now.bytes.now ephemerons.now.bytes.now n }
 {
+    // Closures for `or_else` would each need a clause that repeats the search's own.
     if let Some(root) = root_in(roots, n) {
         return Some(root);
     }

@@ -1,61 +1,70 @@
-// A section's entries, read where they lie. They are sorted by number, so that one
-// is found by halving.
-ghost use Rattle.std.specs.Prelude.{◌≡◌, ◌+◌, ◌<◌, ◌≤◌, IfSome};
-ghost use Rattle.snapshot.specs.Sections.{field, number, entries, rises, found, has, Sorted};
+// A section of a file: entries of WIDTH bytes that lie behind one another.
+ghost use Rattle.std.specs.Prelude.{◌≡◌, ◌+◌, ◌≤◌, length, IfOk};
+ghost use Rattle.std.specs.Result.{result_err};
+ghost use Rattle.model.specs.Faults.{answer};
+ghost use Rattle.snapshot.specs.Numbers.{u16_at};
+ghost use Rattle.snapshot.specs.Entries.{judged};
 
+use crate::kind::Kind;
 use crate::numbers::u16_at;
+use crate::sorted::SortedSection;
+use model::fault::{Cause, Fault};
 
-// How many bytes an entry has, by its kind.
-pub const CELL: usize = 8;
-
-pub const ROOT: usize = 4;
-
-pub const LINK: usize = 8;
-
-pub const EPHEMERON: usize = 8;
-
-// The field at byte `at` of entry `i`.
-pub(crate) fn field_at(section: &[u8], width: usize, i: usize, at: usize) -> u16
-    requires { (i < entries width section.now) × (at + 2 ≤ width) }
-    ensures { result ≡ field width section.now i at }
-{
-    u16_at(section, width * i + at)
+#[derive(Clone, Copy)]
+pub(crate) struct Section<'a, const WIDTH: usize> {
+    // the byte of the file where it starts
+    pub(crate) start: u32,
+    pub(crate) bytes: &'a [u8],
+    ghost within: { start + length bytes.now ≤ 65536 },
+    // an entry has two bytes for its number, and no more than eight in all
+    ghost numbered: { 2 ≤ WIDTH },
+    ghost narrow: { WIDTH ≤ 8 },
 }
 
-// Whether entry `i` has a number above that of the entry before.
-pub(crate) fn in_order(section: &[u8], width: usize, i: usize) -> bool
-    requires { (i < entries width section.now) × (2 ≤ width) }
-    ensures { result ≡ rises (number width section.now) i }
+// The number of an entry, its first field.
+pub(crate) fn number<const WIDTH: usize>(entry: &[u8; WIDTH]) -> u16
+    requires { 2 ≤ WIDTH }
+    ensures { result ≡ u16_at entry.now 0 }
 {
-    i == 0 || field_at(section, width, i - 1, 0) < field_at(section, width, i, 0)
+    u16_at(entry, 0)
 }
 
-// Which entry of a sorted section has number `n`.
-pub(crate) fn find(section: &[u8], width: usize, n: u16) -> Option<usize>
-    requires { (2 ≤ width) × (Sorted width section.now) }
-    ensures which { result ≡ found width section.now n }
-    ensures within { IfSome result (λ k. k < entries width section.now) }
+// The first fault of an entry, where it is known whether its number rises above that of
+// the entry before.
+fn check<const WIDTH: usize, K: Kind<WIDTH>>(
+    kind: &K,
+    entry: &[u8; WIDTH],
+    rises: bool,
+    place: u32,
+) -> Result<(), Fault>
+    ensures { result ≡ answer (judged place (K.fits kind.now entry.now) rises
+        (K.is_new kind.now entry.now) (K.names_cells kind.now entry.now)) tt }
 {
-    let mut low = 0;
-    let mut high = section.len() / width;
-    while low < high {
-        let middle = low + (high - low) / 2;
-        let number = field_at(section, width, middle, 0);
-        if number == n {
-            return Some(middle);
+    let cause = if !kind.fits(entry) {
+        Cause::FieldRange
+    } else if !rises {
+        Cause::NumberOrder
+    } else if !kind.is_new(entry) {
+        Cause::RecordTwice
+    } else if !kind.names_cells(entry) {
+        Cause::CellMissing
+    } else {
+        return Ok(());
+    };
+    Err(cause.at(place))
+}
+
+impl<'a, const WIDTH: usize> Section<'a, WIDTH> {
+    // Judges the entries in file order. They are sorted where none has a fault.
+    pub(crate) fn judge<K: Kind<WIDTH>>(&self, kind: &K) -> Result<SortedSection<'a, WIDTH>, Fault>
+        ensures fault { result_err result ≡ K.fault kind.now self.now.bytes.now self.now.start }
+        ensures bytes { IfOk result (λ s. s.bytes.now ≡ self.now.bytes.now) }
+    {
+        let entries = self.bytes.as_chunks::<WIDTH>().0;
+        for (i, entry) in entries.iter().enumerate() {
+            let rises = i == 0 || number(&entries[i - 1]) < number(entry);
+            check(kind, entry, rises, self.start + (WIDTH * i) as u32)?;
         }
-        if number < n {
-            low = middle + 1;
-        } else {
-            high = middle;
-        }
+        Ok(SortedSection { bytes: self.bytes })
     }
-    None
-}
-
-pub(crate) fn contains(section: &[u8], width: usize, n: u16) -> bool
-    requires { (2 ≤ width) × (Sorted width section.now) }
-    ensures { result ≡ has width section.now n }
-{
-    find(section, width, n).is_some()
 }

@@ -1,4 +1,5 @@
-ghost use Rattle.std.specs.Prelude.{◌≡◌};
+ghost use Rattle.std.specs.Prelude.{◌≡◌, IfOk};
+ghost use Rattle.std.specs.Result.{result_err};
 ghost use Rattle.model.specs.Calls.{empty_heap};
 ghost use Rattle.model.specs.Faults.{answer, left};
 ghost use Rattle.snapshot.specs.Alone.{Alone};
@@ -6,8 +7,9 @@ ghost use Rattle.snapshot.specs.Laid.{file_fault, laid_down};
 ghost use Rattle.snapshot.specs.Snapshot.{meaning_of};
 
 use super::Snapshot;
-use crate::entries::check_entries;
+use crate::entries::{Cells, Ephemerons, Links, Roots};
 use crate::header::Layout;
+use crate::sorted::SortedSection;
 use model::fault::Fault;
 
 impl<'a> Snapshot<'a> {
@@ -16,11 +18,36 @@ impl<'a> Snapshot<'a> {
         ensures { meaning_of result ≡ empty_heap }
     {
         Snapshot {
-            cells: b"",
-            roots: b"",
-            links: b"",
-            ephemerons: b"",
+            cells: SortedSection { bytes: b"" },
+            roots: SortedSection { bytes: b"" },
+            links: SortedSection { bytes: b"" },
+            ephemerons: SortedSection { bytes: b"" },
         }
+    }
+
+    // The heap of a file, or its first fault.
+    fn read(bytes: &'a [u8]) -> Result<Self, Fault>
+        ensures fault { result_err result ≡ file_fault bytes.now }
+        ensures shown { IfOk result (λ s. meaning_of s ≡ laid_down bytes.now) }
+    {
+        let layout = Layout::of(bytes)?;
+        let cells = layout.cells.section(bytes).judge(&Cells)?;
+        let roots = layout.roots.section(bytes).judge(&Roots { cells: &cells })?;
+        let links = layout.links.section(bytes).judge(&Links {
+            cells: &cells,
+            roots: &roots,
+        })?;
+        let ephemerons = layout.ephemerons.section(bytes).judge(&Ephemerons {
+            cells: &cells,
+            roots: &roots,
+            links: &links,
+        })?;
+        Ok(Snapshot {
+            cells,
+            roots,
+            links,
+            ephemerons,
+        })
     }
 
     // Shows the heap of a file. One that is refused leaves what was shown before. No
@@ -32,18 +59,7 @@ impl<'a> Snapshot<'a> {
             (meaning_of self.old) }
         ensures alone { Alone bytes.now }
     {
-        let layout = Layout::of(bytes)?;
-        let cells = layout.cells.cut(bytes);
-        let roots = layout.roots.cut(bytes);
-        let links = layout.links.cut(bytes);
-        let ephemerons = layout.ephemerons.cut(bytes);
-        check_entries(layout, cells, roots, links, ephemerons)?;
-        *self = Snapshot {
-            cells,
-            roots,
-            links,
-            ephemerons,
-        };
+        *self = Snapshot::read(bytes)?;
         Ok(())
     }
 }
