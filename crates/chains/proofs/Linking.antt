@@ -1,6 +1,6 @@
 -- Building the chains, one place after another from the last to the first.
 use Rattle.std.proofs.Common.{◌≡◌, ℕ, ◌+◌, ◌*◌, ◌/◌, ◌%◌, ◌<◌, ◌≤◌, Bool, true, false, cond, eqb, List, length, get_or, set, replicate, Some, None, Option, sym, refl, ap, ◌∙◌, subst, subst₂, inl, inr, arith}
-use Rattle.std.proofs.lemmas.List.{get_or_default, get_or-set_same, get_or-set_other, get_or-replicate, length-set, length-replicate}
+use Rattle.std.proofs.lemmas.List.{get_or-set_same, get_or-set_other, get_or-replicate, length-set, length-replicate}
 use Rattle.std.proofs.lemmas.Bool.{cases_eq, eq-eqb, ne_eqb}
 use Rattle.model.specs.declared.record.Record.{Record}
 use Rattle.model.specs.declared.record.Record.TheVariants.{Root, Link, Ephemeron}
@@ -9,14 +9,6 @@ use Rattle.model.proofs.Filled.{none_some, some_same}
 use Rattle.model.proofs.Formed.{cell_below, named_filled}
 use Rattle.chains.specs.Places.{first_source, second_source, source_at, belongs, seek, lowest, firsts_with, nexts_with, Linked}
 use Rattle.chains.proofs.Seeking.{lowest_here, lowest_on}
-
--- what putting a place does to the two lists
-module _ (p c : ℕ) (x : Option ℕ) (is : x ≡ Some c) (firsts nexts : List ℕ) where
-  pub put_first : set firsts c p ≡ firsts_with p x firsts
-  put_first = rw is
-
-  pub put_next : c < length firsts → set nexts p (get_or firsts c 0) ≡ nexts_with p x firsts nexts
-  put_next l = rw is (ap (set nexts p) (get_or_default firsts c 0 8192 l))
 
 module _ (h : Meaning) where
   -- before any place is put

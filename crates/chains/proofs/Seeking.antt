@@ -1,9 +1,28 @@
 -- What the lowest place of a cell says of the places before it.
 use Rattle.std.proofs.Common.{◌≡◌, ℕ, zero, suc, ◌+◌, ◌-◌, ◌<◌, ◌≤◌, Bool, true, false, cond, get_or, Some, None, Option, sym, refl, ap, ◌∙◌, subst, inl, inr, arith}
-use Rattle.std.proofs.lemmas.Bool.{cases_eq, eqb-true, false≢true}
+use Rattle.std.proofs.lemmas.Bool.{cases_eq, cases_lt, eqb-true, false≢true, lt-ltb, le-ltb}
 use Rattle.model.specs.Meaning.{Meaning}
 use Rattle.chains.specs.declared.Chains.{Chains}
-use Rattle.chains.specs.Places.{source_at, belongs, seek, lowest, Chained}
+use Rattle.model.proofs.Filled.{none_some, some_same}
+use Rattle.chains.specs.Places.{source_at, belongs, seek, lowest, place_if, Chained}
+
+-- the number of a place, or that at which a chain ends
+abbrev pub place_or_end : Option ℕ → ℕ
+place_or_end None = 8192
+place_or_end (Some p) = p
+
+place_back : (q : ℕ) → q ≤ 8192 → place_or_end (place_if q) ≡ q
+place_back q l = elim (cases_lt q 8192) [
+  | inl m ↦ rw (lt-ltb q 8192 m)
+  | inr m ↦ rw (le-ltb q 8192 m) (omega arith)
+]
+
+-- what a chain answers is a place, unless it has ended
+pub place_there : (x : Option ℕ) (q p : ℕ) → x ≡ place_if q → x ≡ Some p → p < 8192
+place_there x q p e f = elim (cases_lt q 8192) [
+  | inl m ↦ let g : Some q ≡ x = sym (e ∙ rw (lt-ltb q 8192 m)) in rw (some_same refl (g ∙ f)) at m
+  | inr m ↦ let g : None ≡ x = sym (e ∙ rw (le-ltb q 8192 m)) in absurd (none_some refl (g ∙ f))
+]
 
 module _ (h : Meaning) (c : ℕ) where
   -- place p belongs to cell c
@@ -64,19 +83,28 @@ module _ (h : Meaning) (c : ℕ) where
   pub lowest_found : (p : ℕ) → p ≤ 8192 → Found p 8192 (lowest h c p)
   lowest_found p l = seek_found (8192 - p) p 8192 (omega arith)
 
+  -- what a chain answers from place p on: the place found, or none
+  abbrev pub FoundFrom : ℕ → Option ℕ → Type 0
+  FoundFrom p x = Found p 8192 (place_or_end x)
+
+  placed : (p : ℕ) (x : Option ℕ) (q : ℕ) → x ≡ place_if q → lowest h c p ≡ q → Found p 8192 (lowest h c p)
+      → FoundFrom p x
+  placed p x q e f found =
+      let here : Found p 8192 q = subst (Found p 8192) f found in
+      subst (Found p 8192) (sym (ap place_or_end e ∙ place_back q here.high)) here
+
   owner : (x : Option ℕ) → belongs x c ≡ true → x ≡ Some c
   owner None e = absurd (false≢true e)
   owner (Some a) e = ap {B = Option ℕ} Some (eqb-true a c e)
 
   -- what the chains answer
   module _ (chains : Chains) (chained : Chained h chains) where
-    pub first_found : (q : ℕ) → c < 1024 → q ≡ get_or chains.first c 8192 → Found 0 8192 q
-    first_found q l e =
-        subst (Found 0 8192) (sym (e ∙ chained.each_first c l)) (lowest_found 0 (omega arith))
+    pub first_found : (x : Option ℕ) → c < 1024 → x ≡ place_if (get_or chains.first c 8192)
+        → FoundFrom 0 x
+    first_found x l e = placed 0 x _ e (sym (chained.each_first c l)) (lowest_found 0 (omega arith))
 
-    pub next_found : (p q : ℕ) → p < 8192 → owned p ≡ true → q ≡ get_or chains.next p 8192
-        → Found (p + 1) 8192 q
-    next_found p q l o e =
+    pub next_found : (p : ℕ) (x : Option ℕ) → p < 8192 → owned p ≡ true
+        → x ≡ place_if (get_or chains.next p 8192) → FoundFrom (p + 1) x
+    next_found p x l o e =
         let own = owner (source_at h p) o in
-        subst (Found (p + 1) 8192) (sym (e ∙ chained.each_next c p (omega arith) l own))
-        (lowest_found (p + 1) (omega arith))
+        placed (p + 1) x _ e (sym (chained.each_next c p (omega arith) l own)) (lowest_found (p + 1) (omega arith))

@@ -1,7 +1,7 @@
 -- The places at which records draw on cells, and the chain of the places of one cell.
 -- Record r has two places: 2 r for a link's source or an ephemeron's table, and 2 r + 1
 -- for an ephemeron's key.
-use Rattle.std.specs.Prelude.{◌≡◌, ℕ, zero, suc, ◌+◌, ◌-◌, ◌/◌, ◌%◌, ◌<◌, ◌≤◌, Bool, false, cond, List, length, Some, None, Option, ◌==◌, slice_index_or, slice_set}
+use Rattle.std.specs.Prelude.{◌≡◌, ℕ, zero, suc, ◌+◌, ◌-◌, ◌/◌, ◌%◌, ◌<◌, ◌≤◌, Bool, false, cond, List, length, Some, None, Option, ◌==◌, nat_lt, slice_index_or, slice_set}
 use Rattle.model.specs.declared.record.Record.{Record}
 use Rattle.model.specs.declared.record.Record.TheVariants.{Root, Link, Ephemeron}
 use Rattle.model.specs.Meaning.{Meaning, record_at}
@@ -39,6 +39,10 @@ seek h c p (suc n) = cond (belongs (source_at h p) c) p (seek h c (p + 1) n)
 -- the lowest place of cell c from p on; 8192 where there is none
 abbrev pub lowest : Meaning → ℕ → ℕ → ℕ
 lowest h c p = seek h c p (8192 - p)
+
+-- a number as a place, where it is one
+abbrev pub place_if : ℕ → Option ℕ
+place_if p = cond (nat_lt p 8192) (Some p) None
 
 -- a place at the front of its cell's chain
 abbrev pub firsts_with : ℕ → Option ℕ → List ℕ → List ℕ

@@ -6,24 +6,19 @@
 
 ghost use Rattle.std.specs.Prelude.{◌≡◌, ℕ, ◌+◌, ◌*◌, ◌<◌, replicate, Some, slice_index_or};
 ghost use Rattle.chains.specs.Places.{first_source, second_source, firsts_with, nexts_with};
-ghost use Rattle.chains.specs.Places.{Linked, Chained};
+ghost use Rattle.chains.specs.Places.{Linked, Chained, place_if};
 
-use model::heap::Heap;
+use model::heap::{CELLS, Heap, RECORDS};
 use model::record::Record;
 
-// How many cells a heap has.
-const CELLS: usize = 1024;
-
-// How many records a heap has.
-const RECORDS: u16 = 4096;
-
 // How many places the records have; no place has this number, so it ends a chain.
-pub const PLACES: u16 = 8192;
+const PLACES: u16 = 2 * RECORDS;
 
-// The lowest place of each cell, and after each place the next of its cell: 18 KB in all.
+// The lowest place of each cell, and after each place the next of its cell: 18 KB in all, half
+// of what they would take with an option at each place.
 #[derive(Drop)]
 pub struct Chains {
-    first: [u16; CELLS],
+    first: [u16; CELLS as usize],
     next: [u16; PLACES as usize],
 }
 
@@ -43,9 +38,8 @@ fn second_source(record: Option<Record>) -> Option<u16>
     ensures { result ≡ second_source «record» }
 {
     match record? {
-        Record::Root { .. } => None,
-        Record::Link { .. } => None,
-        Record::Ephemeron { table, key, .. } => { if key == table { None } else { Some(key) } }
+        Record::Ephemeron { table, key, .. } if key != table => Some(key),
+        _ => None,
     }
 }
 
@@ -56,33 +50,34 @@ impl Chains {
         ensures nexts { result.next ≡ replicate 8192 8192 }
     {
         Chains {
-            first: [PLACES; CELLS],
+            first: [PLACES; CELLS as usize],
             next: [PLACES; PLACES as usize],
         }
     }
 
     // Puts a place at the front of its cell's chain.
     fn put(&mut self, place: u16, source: Option<u16>)
-        requires { (place < 8192) × (((c : ℕ) → source ≡ Some c → c < 1024)) }
+        requires place_exists { place < 8192 }
+        requires cell_exists { (c : ℕ) → source ≡ Some c → c < 1024 }
         ensures firsts { self.new.first ≡ firsts_with place source self.old.first }
         ensures nexts { let was = self.old in
             self.new.next ≡ nexts_with place source was.first was.next }
     {
-        let Some(cell) = source else {
-            return;
-        };
-        self.next[place as usize] = self.first[cell as usize];
-        self.first[cell as usize] = place;
+        if let Some(cell) = source {
+            self.next[place as usize] = self.first[cell as usize];
+            self.first[cell as usize] = place;
+        }
     }
 
     // Puts both places of a record at the front of their chains.
     fn add<H: Heap>(&mut self, heap: &H, number: u16)
-        requires { (number < 4096) × (Linked (H.Heap.meaning heap.now) (2 * number + 2) self.old.first self.old.next) }
+        requires record_exists { number < 4096 }
+        requires linked_above { Linked (H.Heap.meaning heap.now) (2 * number + 2) self.old.first self.old.next }
         ensures { let h = H.Heap.meaning heap.now in
             let is = self.new in
             Linked h (2 * number) is.first is.next }
     {
-        let record = heap.record(number as u32);
+        let record = heap.record(u32::from(number));
         self.put(2 * number + 1, second_source(record));
         self.put(2 * number, first_source(record));
     }
@@ -99,24 +94,26 @@ impl Chains {
     }
 
     // The lowest place of a cell.
-    pub fn first_of(&self, source: u16) -> u16
-        ensures { result ≡ slice_index_or self.now.first source 8192 }
+    pub fn first_of(&self, source: u16) -> Option<u16>
+        ensures { result ≡ place_if (slice_index_or self.now.first source 8192) }
     {
-        if (source as usize) < CELLS {
-            self.first[source as usize]
-        } else {
-            PLACES
-        }
+        place_at(&self.first, source)
     }
 
     // The next place of the cell that place `from` belongs to.
-    pub fn after(&self, from: u16) -> u16
-        ensures { result ≡ slice_index_or self.now.next from 8192 }
+    pub fn after(&self, from: u16) -> Option<u16>
+        ensures { result ≡ place_if (slice_index_or self.now.next from 8192) }
     {
-        if from < PLACES {
-            self.next[from as usize]
-        } else {
-            PLACES
-        }
+        place_at(&self.next, from)
     }
+}
+
+// What a chain has at an index: a place, unless it ends there.
+fn place_at(chain: &[u16], i: u16) -> Option<u16>
+    ensures { result ≡ place_if (slice_index_or chain.now i 8192) }
+{
+    chain
+        .get(i as usize)
+        .copied()
+        .filter(|place| *place < PLACES)
 }

@@ -1,27 +1,17 @@
 -- What is known of lent rows, of which there are enough, once `grade` has filled them.
-use Rattle.std.proofs.Common.{◌≡◌, ℕ, ◌≤◌, ◌++◌, length, take, drop, Some, None, Err, Option, ap, ◌∙◌, arith}
+use Rattle.std.proofs.Common.{◌≡◌, ◌≤◌, ◌++◌, length, take, drop, None, ap, ◌∙◌}
 use Rattle.std.proofs.lemmas.List.{take_at}
 use Rattle.std.proofs.lemmas.Bool.{le-leb}
-use Rattle.model.specs.declared.fault.Fault.{Fault}
-use Rattle.model.specs.Faults.{answer}
 use Rattle.model.specs.Schemes.{Scheme, Lawful}
 use Rattle.model.specs.Meaning.{Meaning, WellFormed}
 use Rattle.model.specs.Settling.{Rows, graded}
-use Rattle.model.specs.Grading.{rows_fault, grade_answer, grade_after}
+use Rattle.model.specs.Grading.{rows_fault, grade_after}
 use Rattle.model.proofs.Steps.{graded_done}
-
-no_err : {A : Type 0} (f : Option Fault) (x : Fault) (a : A) → f ≡ None → Err x ≡ answer f a → ⊥
-no_err None x a n e = let z : ◌≡◌ {A = ℕ} 0 1 = cc in omega arith
-no_err (Some y) x a n e = let z : ◌≡◌ {A = ℕ} 0 1 = cc in omega arith
 
 module _ {G : Type 0} (lent : Rows G) (enough : 1024 ≤ length lent) where
   -- enough rows are no fault
   pub rows_fine : rows_fault lent ≡ None
   rows_fine = rw (le-leb 1024 (length lent) enough)
-
-  -- .. and are always graded
-  pub never_short : (s : Scheme G) (h : Meaning) (x : Fault) → Err x ≡ grade_answer s h lent → ⊥
-  never_short s h x e = no_err (rows_fault lent) x _ rows_fine e
 
   pub filled_by : (s : Scheme G) (h : Meaning) (after : Rows G) → after ≡ grade_after s h lent
       → after ≡ (graded s h).rows ++ drop 1024 lent

@@ -5,6 +5,7 @@ mod Counts
 mod Sealing
 mod Rounds
 mod Within
+mod Same
 pub mod Front
 mod Waking
 mod Trees

@@ -1,6 +1,7 @@
 -- What one turn of each loop does, and what is left when it ends.
-use Rattle.std.proofs.Common.{◌≡◌, ℕ, zero, suc, ◌+◌, ◌-◌, ◌<◌, ◌≤◌, Bool, true, false, cond, List, [], ◌∷◌, ◌++◌, length, get_or, take, drop, set, replicate, Some, None, Option, sym, refl, ap, ◌∙◌, ap₂, arith}
-use Rattle.std.proofs.lemmas.List.{take_more_set, replicate_more, at_drop_more, at_drop_all}
+use Rattle.std.proofs.Common.{◌≡◌, ℕ, zero, suc, ◌+◌, ◌-◌, ◌<◌, ◌≤◌, Bool, true, false, cond, [], ◌∷◌, length, get_or, drop, replicate, Some, None, Option, sym, refl, ap, ◌∙◌, ap₂, arith}
+use mir.Val.{bool_byte}
+use Rattle.std.proofs.lemmas.List.{at_drop_more, at_drop_all}
 use Rattle.model.specs.declared.row.Offer.{Offer}
 use Rattle.model.specs.Schemes.{Scheme}
 use Rattle.model.specs.Meaning.{Meaning, record_at}
@@ -9,11 +10,7 @@ use Rattle.model.proofs.Filled.{none_some}
 use Rattle.offers.specs.Offers.{settled_row}
 use Rattle.engine.specs.Working.{settled_rows, visit, visited, pass, tally, chosen, seal, Work, turned, turn_count, round_by, round_at, round, run, start}
 
--- clearing the rows
-pub clear_more : {A : Type 0} (xs : List A) (i : ℕ) (y : A) → i < length xs → take i xs ≡ replicate i y
-    → take (i + 1) (set xs i y) ≡ replicate (i + 1) y
-clear_more xs i y l e = take_more_set xs i y l ∙ ap (λ z. z ++ y ∷ []) e ∙ replicate_more i y
-
+-- a row of the settled ones
 pub settled_at : {G : Type 0} (rows : Rows G) (i : ℕ)
     → get_or (settled_rows rows) i None ≡ settled_row (get_or rows i None)
 settled_at [] i = refl
@@ -21,11 +18,9 @@ settled_at (x ∷ xs) zero = refl
 settled_at (x ∷ xs) (suc i) = settled_at xs i
 
 -- a count that goes up where a test holds
-pub goes_up : (b : Bool) (n m : ℕ) → b ≡ true → m ≡ n + 1 → m ≡ n + cond b 1 0
-goes_up b n m e q = rw e q
-
-pub stays : (b : Bool) (n m : ℕ) → b ≡ false → m ≡ n → m ≡ n + cond b 1 0
-stays b n m e q = rw e (omega arith)
+pub count_up : (b : Bool) (n m : ℕ) → m ≡ bool_byte b → n + m ≡ n + cond b 1 0
+count_up true n m e = ap (λ (k : ℕ). n + k) e
+count_up false n m e = ap (λ (k : ℕ). n + k) e
 
 pub up_to_one : (b : Bool) (n m : ℕ) → m ≡ n + cond b 1 0 → m ≤ n + 1
 up_to_one true n m e = omega arith

@@ -10,7 +10,7 @@ use Rattle.model.proofs.Filled.{none_some}
 use Rattle.model.proofs.Choice.{better_sound}
 use Rattle.model.proofs.Order.{ComesBefore, first_refl}
 use Rattle.offers.specs.Offers.{held_offer, waiting, row_waiting, overtaken, improved}
-use Rattle.engine.specs.Working.{proposed, chosen, seal}
+use Rattle.engine.specs.Working.{chosen, seal}
 use Rattle.engine.specs.Waiting.{Tree, held, joined, Ranks}
 use Rattle.engine.proofs.Least.{Least, WaitsSomewhere, least_same, least_iff, least_self, least_join}
 use Rattle.engine.proofs.Least.{least_chosen, before_left, before_right}
@@ -334,28 +334,6 @@ module _ {G : Type 0} (s : Scheme G) where
     pub improves_is : (x z : Option (Row G)) (b t : Bool) → x ≡ z → b ≡ improved s o x → b ≡ t
         → improved s o z ≡ t
     improves_is x z b t e f k = ap (improved s o) (sym e) ∙ sym f ∙ k
-
-    pub improved_not : (z : Option (Row G)) → improved s o z ≡ false → proposed s o z ≡ z
-    improved_not None e = absurd (true≢false e)
-    improved_not (Some row) e =
-        go (ltb row.turn 1024) (earlier (s.rank o.grade row.grade) o (held_offer o.cell row)) e
-      where
-        go : (t u : Bool) → cond t false u ≡ false
-            → cond t (Some row) (cond u (Some (row_waiting o)) (Some row)) ≡ Some row
-        go true u e = refl
-        go false true e = absurd (true≢false e)
-        go false false e = refl
-
-    pub improved_so : (z : Option (Row G)) → improved s o z ≡ true → proposed s o z ≡ Some (row_waiting o)
-    improved_so None e = refl
-    improved_so (Some row) e =
-        go (ltb row.turn 1024) (earlier (s.rank o.grade row.grade) o (held_offer o.cell row)) e
-      where
-        go : (t u : Bool) → cond t false u ≡ true
-            → cond t (Some row) (cond u (Some (row_waiting o)) (Some row)) ≡ Some (row_waiting o)
-        go true u e = absurd (false≢true e)
-        go false true e = refl
-        go false false e = absurd (false≢true e)
 
     pub improved_best : (z : Option (Row G)) → improved s o z ≡ true
         → better_of s (waiting o.cell z) (Some o) ≡ Some o

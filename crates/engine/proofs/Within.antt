@@ -1,5 +1,5 @@
 -- The cells that records and offers name are below the number of rows.
-use Rattle.std.proofs.Common.{◌≡◌, ℕ, ◌<◌, Bool, true, false, cond, ltb, length, get_or, Some, None, Option, sym, refl, ap, inl, inr, arith}
+use Rattle.std.proofs.Common.{◌≡◌, ℕ, ◌<◌, Bool, true, false, cond, ltb, length, get_or, Some, None, Option, IfSome, sym, refl, ap, inl, inr, arith}
 use Rattle.std.proofs.lemmas.List.{get_or_past}
 use Rattle.std.proofs.lemmas.Bool.{cases_lt}
 use Rattle.model.specs.declared.record.Record.{Record}
@@ -16,12 +16,12 @@ use Rattle.engine.specs.Working.{chosen, SourcesWithin}
 use Rattle.engine.proofs.Least.{least_chosen}
 
 -- a filled record names filled cells, and those are below 1,024
-module _ (h : Meaning) (wf : WellFormed h) (n : ℕ) (wide : n ≡ 1024) where
-  below : (c : ℕ) → Filled h c → c < n
-  below c f = omega (arith, cell_below h wf c f.0 f.1)
+module _ (h : Meaning) (wf : WellFormed h) where
+  below : (c : ℕ) → Filled h c → c < 1024
+  below c f = cell_below h wf c f.0 f.1
 
   pub names_within : (r : ℕ) (rec : Record) → Some rec ≡ record_at h r
-      → SourcesWithin n rec × (target rec < n)
+      → SourcesWithin 1024 rec × (target rec < 1024)
   names_within r (Root t) e = (tt, below t (named_filled h wf r (Root t) (sym e)))
   names_within r (Link a t k) e =
       let p = named_filled h wf r (Link a t k) (sym e) in
@@ -48,3 +48,8 @@ module _ {G : Type 0} (s : Scheme G) (law : Lawful s) where
         | inl l ↦ rw q l
         | inr l ↦ absurd (none_some (ap (waiting p.0) (get_or_past rows p.0 None l)) p.1)
       ]
+
+  pub chosen_below : (rows : Rows G) → length rows ≡ 1024 → (x : Option (Offer G)) → x ≡ chosen s rows
+      → IfSome x (λ o. o.cell < 1024)
+  chosen_below rows wide None e = tt
+  chosen_below rows wide (Some o) e = omega (arith, chosen_within rows o e)

@@ -5,14 +5,12 @@ ghost use Rattle.model.specs.Grading.{grade_answer, grade_after, Tells, Numbered
 ghost use Rattle.laws.specs.Order.{InOrder, OnlyInOrder};
 
 use model::fault::{Cause, Fault};
-use model::heap::Heap;
+use model::heap::{CELLS, Heap};
 use model::row::{Counts, Row};
 use model::scheme::Scheme;
-use offers::CELLS;
-use tree::NODES;
 use turns::settle_all;
 
-mod rows;
+mod queue;
 mod tree;
 mod turns;
 mod weigh;
@@ -53,11 +51,7 @@ pub fn grade<S: Scheme, H: Heap>(
         OnOk result (OnlyInOrder s h (take 1024 rows.new)) }
 {
     if rows.len() < CELLS as usize {
-        return Err(Fault {
-            cause: Cause::RowsShort,
-            place: 0,
-        });
+        return Err(Cause::RowsShort.at(0));
     }
-    let front = &mut rows[..CELLS as usize];
-    Ok(settle_all(scheme, heap, front, &mut [None; NODES]))
+    Ok(settle_all(scheme, heap, &mut rows[..CELLS as usize]))
 }

@@ -1,63 +1,50 @@
 // Weighing a record: the grade that it gives, offered to the cell that it reaches.
-ghost use Rattle.std.specs.Prelude.{◌≡◌, ◌<◌, length, is_some};
+ghost use Rattle.std.specs.Prelude.{◌≡◌};
 ghost use Rattle.model.specs.Meaning.{cell_at, record_at};
-ghost use Rattle.model.specs.Settling.{target as reached, size_or_none};
-ghost use Rattle.engine.specs.Working.{gives, weighed_by, wakes, visit, visited, SourcesWithin};
-ghost use Rattle.engine.specs.Waiting.{Ranks};
+ghost use Rattle.model.specs.Settling.{size_or_none};
+ghost use Rattle.engine.specs.Queues.{SameQueue};
+ghost use Rattle.engine.specs.Working.{gives, wakes, visit, visited, SourcesWithin};
 
-use crate::rows::settled_at;
-use crate::tree::suggest;
+use crate::queue::Queue;
 use model::heap::Heap;
 use model::record::Record;
-use model::row::{Offer, Row};
+use model::row::Offer;
 use model::scheme::Scheme;
 
 fn size_at<H: Heap>(heap: &H, cell: u16) -> u32
     ensures { result ≡ size_or_none (cell_at (H.Heap.meaning heap.now) cell) }
 {
-    match heap.cell(cell as u32) {
-        Some(size) => size,
-        None => 0,
-    }
-}
-
-fn target_of(record: Record) -> u16
-    ensures { result ≡ reached «record» }
-{
-    match record {
-        Record::Root { target } => target,
-        Record::Link { target, .. } => target,
-        Record::Ephemeron { value, .. } => value,
-    }
+    heap.cell(u32::from(cell)).unwrap_or(0)
 }
 
 // The grade that a record gives now, if all its sources are settled.
 fn grade_from<S: Scheme, H: Heap>(
-    scheme: &S,
     heap: &H,
-    rows: &[Option<Row<S::Grade>>],
+    queue: &Queue<S>,
     number: u16,
     record: Record,
 ) -> Option<S::Grade>
-    requires { SourcesWithin (length rows.now) «record» }
-    ensures { let s = S.Scheme.model scheme.now in
+    requires { SourcesWithin 1024 «record» }
+    ensures { let s = S.Scheme.model queue.now.scheme.now in
         let h = H.Heap.meaning heap.now in
-        result ≡ gives s h rows.now number «record» }
+        result ≡ gives s h queue.now.rows.now number «record» }
 {
+    let scheme = queue.scheme;
+    let size = size_at(heap, record.target());
     match record {
-        Record::Root { target } => Some(scheme.start(number, size_at(heap, target))),
+        Record::Root { .. } => Some(scheme.start(number, size)),
         Record::Link {
             source,
-            target,
             strength,
+            ..
         } => {
-            let from = settled_at(rows, source)?;
-            Some(scheme.along(number, size_at(heap, target), from.grade, strength))
+            let from = queue.settled(source)?;
+            Some(scheme.along(number, size, from.grade, strength))
         }
-        Record::Ephemeron { table, key, value } => {
-            let holds = settled_at(rows, table)?;
-            let opens = settled_at(rows, key)?;
-            Some(scheme.join(number, size_at(heap, value), holds.grade, opens.grade))
+        Record::Ephemeron { table, key, .. } => {
+            let holds = queue.settled(table)?;
+            let opens = queue.settled(key)?;
+            Some(scheme.join(number, size, holds.grade, opens.grade))
         }
     }
 }
@@ -75,71 +62,35 @@ fn is_woken(just: Option<u16>, record: Record) -> bool
     }
 }
 
-// Offers what the record gives, and says whether it was ready.
-fn weigh<S: Scheme, H: Heap>(
-    scheme: &S,
-    heap: &H,
-    rows: &mut [Option<Row<S::Grade>>],
-    tree: &mut [Option<Offer<S::Grade>>],
-    number: u16,
-    record: Record,
-) -> bool
-    requires wide { length rows.old ≡ 1024 }
-    requires sources { SourcesWithin (length rows.old) «record» }
-    requires reaches { reached «record» < length rows.old }
-    requires ranks { Ranks (S.Scheme.model scheme.now) rows.old tree.old }
-    ensures after { let s = S.Scheme.model scheme.now in
-        let h = H.Heap.meaning heap.now in
-        rows.new ≡ weighed_by s rows.old number «record»
-        (gives s h rows.old number «record») }
-    ensures counted { let s = S.Scheme.model scheme.now in
-        let h = H.Heap.meaning heap.now in
-        result ≡ is_some (gives s h rows.old number «record») }
-    ensures ranks { let s = S.Scheme.model scheme.now in
-        Ranks s rows.new tree.new }
-{
-    let Some(grade) = grade_from(scheme, heap, rows, number, record) else {
-        return false;
-    };
-    suggest(
-        scheme,
-        rows,
-        tree,
-        Offer {
-            grade,
-            cell: target_of(record),
-            number,
-        },
-    );
-    true
-}
-
-// Weighs record `number` if it is there and was woken, and says whether it was ready.
+// Weighs record `number` if it is there and was woken, offers what it gives, and says whether
+// it was ready.
 pub(crate) fn look_at<S: Scheme, H: Heap>(
-    scheme: &S,
     heap: &H,
-    rows: &mut [Option<Row<S::Grade>>],
-    tree: &mut [Option<Offer<S::Grade>>],
+    queue: &mut Queue<S>,
     just: Option<u16>,
     number: u16,
 ) -> bool
-    requires wide { length rows.old ≡ 1024 }
-    requires ranks { Ranks (S.Scheme.model scheme.now) rows.old tree.old }
-    ensures after { let s = S.Scheme.model scheme.now in
+    ensures after { let s = S.Scheme.model queue.old.scheme.now in
         let h = H.Heap.meaning heap.now in
-        rows.new ≡ visit s h just number (record_at h number) rows.old }
-    ensures counted { let s = S.Scheme.model scheme.now in
+        queue.new.rows.now ≡ visit s h just number (record_at h number) queue.old.rows.now }
+    ensures counted { let s = S.Scheme.model queue.old.scheme.now in
         let h = H.Heap.meaning heap.now in
-        result ≡ visited s h just number (record_at h number) rows.old }
-    ensures ranks { let s = S.Scheme.model scheme.now in
-        Ranks s rows.new tree.new }
+        result ≡ visited s h just number (record_at h number) queue.old.rows.now }
+    ensures same { SameQueue queue.old queue.new }
 {
-    let Some(record) = heap.record(number as u32) else {
+    let Some(record) = heap.record(u32::from(number)) else {
         return false;
     };
-    if is_woken(just, record) {
-        weigh(scheme, heap, rows, tree, number, record)
-    } else {
-        false
+    if !is_woken(just, record) {
+        return false;
     }
+    let Some(grade) = grade_from(heap, queue, number, record) else {
+        return false;
+    };
+    queue.suggest(Offer {
+        grade,
+        cell: record.target(),
+        number,
+    });
+    true
 }

@@ -3,18 +3,17 @@
 // settled cell, and any other row holds the best offer so far to a cell that waits.
 #![tactic(auto)]
 
-ghost use Rattle.std.specs.Prelude.{◌≡◌};
+ghost use Rattle.std.specs.Prelude.{◌≡◌, nat_lt};
 ghost use Rattle.model.specs.Settling.{earlier, better_of};
 ghost use Rattle.offers.specs.Offers.{settled_row, held_offer, waiting, row_waiting, overtaken, improved};
 
+use model::heap::CELLS;
 use model::row::{Offer, Row};
 use model::scheme::{Rank, Scheme};
 
-// How many cells a heap has; a turn below it is the turn of a settled cell.
-pub const CELLS: u16 = 1024;
-
-// The turn of a row that waits.
-pub const WAITS: u16 = 0xffff;
+// The turn of a row that waits. Offers wait in the rows that are lent for the result, so that no
+// more room is needed for them, and a number in a row says which of the two it holds.
+pub const WAITS: u16 = u16::MAX;
 
 // Whether `a` is taken before `b`: by grade, then by cell, then by record.
 pub fn beats<S: Scheme>(scheme: &S, a: Offer<S::Grade>, b: Offer<S::Grade>) -> bool
@@ -24,13 +23,7 @@ pub fn beats<S: Scheme>(scheme: &S, a: Offer<S::Grade>, b: Offer<S::Grade>) -> b
     match scheme.rank(a.grade, b.grade) {
         Rank::Before => true,
         Rank::After => false,
-        Rank::Same => {
-            if a.cell == b.cell {
-                a.number < b.number
-            } else {
-                a.cell < b.cell
-            }
-        }
+        Rank::Same => (a.cell, a.number) < (b.cell, b.number),
     }
 }
 
@@ -42,17 +35,17 @@ pub fn better<S: Scheme>(
 ) -> Option<Offer<S::Grade>>
     ensures { result ≡ better_of (S.Scheme.model scheme.now) a b }
 {
-    let Some(old) = a else {
-        return b;
-    };
-    let Some(new) = b else {
-        return Some(old);
-    };
-    if beats(scheme, new, old) {
-        Some(new)
-    } else {
-        Some(old)
+    match (a, b) {
+        (Some(old), Some(new)) => Some(if beats(scheme, new, old) { new } else { old }),
+        _ => a.or(b),
     }
+}
+
+// Whether a row is that of a settled cell, whose turn is below the number of cells.
+fn is_settled<G>(row: &Row<G>) -> bool
+    ensures { result ≡ nat_lt row.now.turn 1024 }
+{
+    row.turn < CELLS
 }
 
 // What a row that waits holds: an offer to its cell.
@@ -81,12 +74,8 @@ pub fn waiting_row<G: Copy>(offer: Offer<G>) -> Row<G>
 pub fn candidate<G: Copy>(cell: u16, row: Option<Row<G>>) -> Option<Offer<G>>
     ensures { result ≡ waiting cell row }
 {
-    let it = row?;
-    if it.turn < CELLS {
-        None
-    } else {
-        Some(row_offer(cell, it))
-    }
+    row.filter(|it| !is_settled(it))
+        .map(|it| row_offer(cell, it))
 }
 
 // Whether `offer` is to wait in the row of its cell: a settled row stands, and of two offers
@@ -94,21 +83,14 @@ pub fn candidate<G: Copy>(cell: u16, row: Option<Row<G>>) -> Option<Offer<G>>
 pub fn improves<S: Scheme>(scheme: &S, offer: Offer<S::Grade>, row: Option<Row<S::Grade>>) -> bool
     ensures { result ≡ improved (S.Scheme.model scheme.now) offer row }
 {
-    let Some(old) = row else {
-        return true;
-    };
-    if old.turn < CELLS {
-        return false;
-    }
-    beats(scheme, offer, row_offer(offer.cell, old))
+    row.is_none_or(|old| !is_settled(&old) && beats(scheme, offer, row_offer(offer.cell, old)))
 }
 
 // The row, unless it waits.
 pub fn settled_only<G: Copy>(row: Option<Row<G>>) -> Option<Row<G>>
     ensures { result ≡ settled_row row }
 {
-    let it = row?;
-    if it.turn < CELLS { Some(it) } else { None }
+    row.filter(is_settled)
 }
 
 // Whether `offer` is taken before `old`, if that is anything.
@@ -119,8 +101,5 @@ pub fn overtakes<S: Scheme>(
 ) -> bool
     ensures { result ≡ overtaken (S.Scheme.model scheme.now) offer old }
 {
-    let Some(old) = old else {
-        return true;
-    };
-    beats(scheme, offer, old)
+    old.is_none_or(|old| beats(scheme, offer, old))
 }

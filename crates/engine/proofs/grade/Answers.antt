@@ -1,14 +1,6 @@
-use Rattle.std.proofs.Common.{ℕ, ◌*◌, ◌<◌, ◌≤◌, length, mul-le-mul_right, arith}
+use Rattle.std.proofs.Common.{◌≤◌, length, arith}
 use Rattle.engine.proofs.Promise.{answers, fills, tells, numbered, worsens, backed, in_order, alone}
 use Rattle.engine.proofs.grade.Goals as goal
-
--- the tree takes as much room as 1,024 rows, and so many are lent
-within_room : (k n size : ℕ) → k ≤ n → n * size < 9223372036854775808 → k * size < 9223372036854775808
-within_room k n size l room = omega (arith, mul-le-mul_right {m = k} {n = n} size l)
-
-pub whole_as_slice-settle_all : goal.whole_as_slice-settle_all
-whole_as_slice-settle_all g c =
-    within_room 1024 (length c.args.rows.now) _ (omega arith) c.well_formed.1.1.0.1
 
 pub returns : goal.returns
 returns g c =

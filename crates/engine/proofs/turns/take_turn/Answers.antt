@@ -1,63 +1,44 @@
-use Rattle.std.proofs.Common.{ℕ, ◌≤◌, refl, ◌∙◌, subst, arith}
-use Rattle.model.proofs.Filled.{none_some, some_same}
+use Rattle.std.proofs.Common.{Some, ap, ◌∙◌}
+use Rattle.model.specs.Schemes.{Scheme}
+use Rattle.engine.specs.Working.{pass, tally}
+use Rattle.engine.proofs.Same.{same_at_first, same_then}
 use Rattle.engine.proofs.Loops.{turn_took, turn_idle}
-use Rattle.engine.proofs.Within.{chosen_within}
-use Rattle.engine.proofs.Trees.{top_chosen}
 use Rattle.engine.proofs.turns.take_turn.Goals as goal
 
 pub returns-in_err-offer : goal.returns-in_err-offer
 returns-in_err-offer g c =
-    let s = g.S.Scheme.model c.args.scheme.now in
-    let law = g.met.S.Scheme.lawful c.args.scheme.now in
+    let s = g.S.Scheme.model c.args.queue.now.scheme.now in
     let h = g.H.Heap.meaning c.args.heap.now in
-    let rows = c.args.rows.now in
-    let top = top_chosen s law rows c.requires.wide c.args.tree.now c.requires.ranks in
-    let p = turn_idle s h rows c.args.turn c.from_residual.result _
-    (c.in_err-offer.ensures ∙ top) c.from_residual.ensures in
+    let p = turn_idle s h c.args.queue.now.rows.now c.args.turn c.from_residual.result _
+    c.in_err-offer.ensures.best c.from_residual.ensures in
     record {
       after = p.0;
       counted = p.1;
-      small = λ k e. absurd (none_some c.from_residual.ensures e);
-      ranks = c.requires.ranks;
+      small = rw c.from_residual.ensures tt;
+      same = same_at_first c.args.queue.now;
     }
 
 pub settle-requires : goal.settle-requires
-settle-requires g c =
-    let s = g.S.Scheme.model c.args.scheme.now in
-    let law = g.met.S.Scheme.lawful c.args.scheme.now in
-    let rows = c.args.rows.now in
-    let top = top_chosen s law rows c.requires.wide c.args.tree.now c.requires.ranks in
-    let l = chosen_within s law rows c.in_ok-offer.offer (c.in_ok-offer.ensures ∙ top) in
-    record { wide = c.requires.wide; within = omega (arith, c.requires.wide); ranks = c.requires.ranks }
+settle-requires g c = c.in_ok-offer.ensures.within
 
-pub wake-count-requires : goal.wake-count-requires
-wake-count-requires g c =
-    let s = g.S.Scheme.model c.args.scheme.now in
-    let law = g.met.S.Scheme.lawful c.args.scheme.now in
-    let rows = c.args.rows.now in
-    let top = top_chosen s law rows c.requires.wide c.args.tree.now c.requires.ranks in
-    let l = chosen_within s law rows c.in_ok-offer.offer (c.in_ok-offer.ensures ∙ top) in
-    record {
-      wide = omega arith;
-      ranks = c.settle.ensures.ranks;
-      within = omega (arith, c.requires.wide);
-      chained = c.requires.chained;
-    }
+pub wake-requires-clause-within : goal.wake-requires-clause-within
+wake-requires-clause-within g c = c.in_ok-offer.ensures.within
 
 pub returns : goal.returns
 returns g c =
-    let s = g.S.Scheme.model c.args.scheme.now in
-    let law = g.met.S.Scheme.lawful c.args.scheme.now in
+    let s = g.S.Scheme.model c.args.queue.now.scheme.now in
     let h = g.H.Heap.meaning c.args.heap.now in
-    let rows = c.args.rows.now in
-    let woke = c.wake-count in
-    let top = top_chosen s law rows c.requires.wide c.args.tree.now c.requires.ranks in
-    let p = turn_took s h rows c.settle.new.rows woke.new.rows c.args.turn woke.result
-    c.in_ok-offer.offer _ (c.in_ok-offer.ensures ∙ top) c.settle.ensures.after
-    woke.ensures.after woke.ensures.counted in
+    let o = c.in_ok-offer.offer in
+    let settled = c.settle.new.self.rows.now in
+    let woke = c.wake in
+    let same = ap (λ z. g.S.Scheme.model z.now) c.settle.ensures.same.scheme in
+    let after = woke.ensures.after ∙ ap (λ (z : Scheme _). pass z h (Some o.cell) 0 h.records settled) same in
+    let counted = woke.ensures.counted ∙ ap (λ (z : Scheme _). tally z h (Some o.cell) 0 h.records settled) same in
+    let p = turn_took s h c.args.queue.now.rows.now settled woke.new.queue.rows.now c.args.turn
+    woke.result o _ c.in_ok-offer.ensures.best c.settle.ensures.after after counted in
     record {
       after = p.0;
       counted = p.1;
-      small = λ k e. subst (λ (n : ℕ). n ≤ 4096) (some_same refl e) woke.ensures.small;
-      ranks = woke.ensures.ranks;
+      small = woke.ensures.small;
+      same = same_then c.settle.ensures.same woke.ensures.same;
     }

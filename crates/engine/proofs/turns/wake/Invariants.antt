@@ -1,22 +1,26 @@
-use Rattle.std.proofs.Common.{◌≡◌, ◌+◌, ◌-◌, ◌/◌, ◌<◌, ◌≤◌, true, Some}
-use Rattle.chains.proofs.Seeking.{owned}
-use Rattle.engine.specs.Waiting.{Ranks}
+use Rattle.std.proofs.Common.{◌≡◌, ℕ, ◌+◌, ◌-◌, ◌/◌, ◌<◌, ◌≤◌, true, Some}
+use Rattle.chains.proofs.Seeking.{owned, place_or_end}
+use Rattle.engine.specs.Queues.{SameQueue}
 use Rattle.engine.proofs.Loops.{rows_from, count_from}
 use Rattle.engine.proofs.turns.wake.Given as goal
 
 -- the place is the cell's own, and the records from there on complete the pass and its count
-abbrev pub invariant-loop-place : goal.invariant-loop-place
-invariant-loop-place g l =
-    let s = g.S.Scheme.model l.scheme in
+abbrev pub invariant-loop-next : goal.invariant-loop-next
+invariant-loop-next g l =
+    let s = g.S.Scheme.model l.initial.queue.scheme.now in
     let h = g.H.Heap.meaning l.heap in
-    (l.place ≤ 8192)
-    × (l.count ≤ l.place / 2)
-    × (l.place < 8192 → owned h l.cell l.place ≡ true)
-    × (rows_from s h (Some l.cell) (l.place / 2) l.rows
-    ≡ rows_from s h (Some l.cell) 0 l.initial.rows)
-    × (l.count + count_from s h (Some l.cell) (l.place / 2) l.rows
-    ≡ count_from s h (Some l.cell) 0 l.initial.rows)
-    × Ranks s l.rows l.tree
+    let was = l.initial.queue in
+    let place = place_or_end l.next in
+    record {
+      there : (p : ℕ) → l.next ≡ Some p → p < 8192;
+      few : l.count ≤ place / 2;
+      own : place < 8192 → owned h l.cell place ≡ true;
+      same : SameQueue l.initial.queue l.queue;
+      passing : rows_from s h (Some l.cell) (place / 2) l.queue.rows.now
+          ≡ rows_from s h (Some l.cell) 0 was.rows.now;
+      counting : l.count + count_from s h (Some l.cell) (place / 2) l.queue.rows.now
+          ≡ count_from s h (Some l.cell) 0 was.rows.now;
+    }
 
-abbrev pub decreases-loop-place : goal.decreases-loop-place
-decreases-loop-place g l = 8192 - l.place
+abbrev pub decreases-loop-next : goal.decreases-loop-next
+decreases-loop-next g l = 8192 - place_or_end l.next
