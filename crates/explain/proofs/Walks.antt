@@ -1,14 +1,12 @@
 -- What one turn of each loop does, and what is left when it ends.
-use Rattle.std.proofs.Common.{◌≡◌, ℕ, zero, suc, ◌+◌, ◌<◌, ◌≤◌, Bool, true, false, cond, List, [], ◌∷◌, ◌++◌, length, get_or, drop, set, replicate, Some, None, Option, sym, refl, ap, ◌∙◌, append_assoc, append-nil, add-one, arith}
-use Rattle.std.proofs.lemmas.List.{at_drop_more, at_drop_all, drop_all, drop-set}
-use Rattle.model.specs.declared.record.Record.TheVariants.{Link, Ephemeron}
-use Rattle.model.specs.declared.record.Strength.{Strength}
+use Rattle.std.proofs.Common.{◌≡◌, ℕ, zero, suc, ◌+◌, ◌<◌, ◌≤◌, Bool, true, false, cond, List, [], ◌∷◌, ◌++◌, length, get_or, reverse, drop, set, replicate, Some, None, Option, sym, refl, ap, ◌∙◌, append_assoc, append-nil, add-one, arith}
+use Rattle.std.specs.List.{refill}
+use Rattle.std.proofs.lemmas.List.{at_drop_more, at_drop_all, take_at, reverse-append}
 use Rattle.model.specs.declared.row.Row.{Row}
-use Rattle.model.specs.Meaning.{Meaning, WellFormed, record_at}
+use Rattle.model.specs.Meaning.{Meaning, record_at}
 use Rattle.model.specs.Settling.{Rows}
 use Rattle.model.specs.Explaining.{sources_of, marked, placed, in_order, cells_by_turn, explain, steps_of}
-use Rattle.model.proofs.Formed.{cell_below, named_filled}
-use Rattle.explain.specs.Walking.{Cells, holder_at, marks_next, steps_next}
+use Rattle.explain.specs.Walking.{Cells, holder_at}
 
 -- noting the cells at their turns
 module _ {G : Type 0} (rows : Rows G) (order : List ℕ) (c : ℕ) where
@@ -44,31 +42,38 @@ cells_first zero t = omega arith
 cells_first (suc n) zero = omega arith
 cells_first (suc n) (suc t) = cells_first n t
 
--- a filled record draws on cells below 1,024
-module _ (h : Meaning) (wf : WellFormed h) (r : ℕ) where
-  pub link_below : (a t : ℕ) (k : Strength) → Some (Link a t k) ≡ record_at h r → a < 1024
-  link_below a t k e =
-      let p = named_filled h wf r (Link a t k) (sym e) in
-      cell_below h wf a p.0.0 p.0.1
+-- the marks after cell c has had its turn
+abbrev pub marks_next : {G : Type 0} → Meaning → Rows G → ℕ → List Bool → List Bool
+marks_next h rows c marks =
+    cond (get_or marks c false) (marked (sources_of (record_at h (holder_at rows c))) marks) marks
 
-  pub ephemeron_below : (a b v : ℕ) → Some (Ephemeron a b v) ≡ record_at h r → (a < 1024) × (b < 1024)
-  ephemeron_below a b v e =
-      let p = named_filled h wf r (Ephemeron a b v) (sym e) in
-      (cell_below h wf a p.0.0 p.0.1, cell_below h wf b p.1.0 p.1.1)
+-- .. and the steps found
+abbrev pub steps_next : {G : Type 0} → Rows G → ℕ → List Bool → List ℕ → List ℕ
+steps_next rows c marks steps = cond (get_or marks c false) (holder_at rows c ∷ steps) steps
 
 -- one more step before those found
-pub found_more : (found : List ℕ) (before at r : ℕ) → before + 1 ≡ at → before < length found
-    → drop before (set found before r) ≡ r ∷ drop at found
-found_more found before at r e l = drop-set found before r l ∙ ap (λ (n : ℕ). r ∷ drop n found) e
+pub found_more : (found : List ℕ) (r : ℕ) → reverse (found ++ r ∷ []) ≡ r ∷ reverse found
+found_more found r = reverse-append found (r ∷ [])
 
--- what the turn of a marked cell does
-module _ {G : Type 0} (h : Meaning) (rows : Rows G) (c r : ℕ) (marks after : List Bool)
-    (on : get_or marks c false ≡ true) (is-holder : r ≡ holder_at rows c) where
-  pub look_marks : after ≡ marked (sources_of (record_at h r)) marks → after ≡ marks_next h rows c marks
-  look_marks e = rw (on, ← is-holder) e
+-- a list that is written whole is what was written
+pub refilled : (xs ws : List ℕ) → length ws ≡ length xs → refill (length xs) xs ws ≡ ws
+refilled xs ws e = take_at ws (drop (length ws) xs) (length xs) e
 
-  pub look_steps : (steps rest : List ℕ) → steps ≡ r ∷ rest → steps ≡ steps_next rows c marks rest
-  look_steps steps rest e = rw (on, ← is-holder) e
+-- what the turn of a cell does
+module _ {G : Type 0} (h : Meaning) (rows : Rows G) (c : ℕ) (marks after : List Bool) (steps rest : List ℕ) where
+  module _ (r : ℕ) (on : get_or marks c false ≡ true) (is-holder : r ≡ holder_at rows c) where
+    pub marks_more : after ≡ marked (sources_of (record_at h r)) marks → after ≡ marks_next h rows c marks
+    marks_more e = rw (on, ← is-holder) e
+
+    pub steps_more : steps ≡ r ∷ rest → steps ≡ steps_next rows c marks rest
+    steps_more e = rw (on, ← is-holder) e
+
+  module _ (off : get_or marks c false ≡ false) where
+    pub marks_stand : after ≡ marks → after ≡ marks_next h rows c marks
+    marks_stand e = rw off e
+
+    pub steps_stand : steps ≡ rest → steps ≡ steps_next rows c marks rest
+    steps_stand e = rw off e
 
 -- the walk: what is left to explain goes before the steps found so far
 module _ {G : Type 0} (h : Meaning) (rows : Rows G) (order : List ℕ) where
@@ -103,12 +108,9 @@ module _ {G : Type 0} (h : Meaning) (rows : Rows G) (order : List ℕ) where
   unfolding explain
   walk_end t marks rest whole e f = ap (λ (n : ℕ). explain h rows order n marks ++ rest) (sym e) ∙ f
 
-pub walk_first : {G : Type 0} (h : Meaning) (rows : Rows G) (order found : List ℕ) (c t n : ℕ)
-    → order ≡ cells_by_turn rows → length found ≤ n
-    → explain h rows order (t + 1) (set (replicate 1024 false) c true) ++ drop n found ≡ steps_of h rows c t
+pub walk_first : {G : Type 0} (h : Meaning) (rows : Rows G) (order : List ℕ) (c t : ℕ)
+    → order ≡ cells_by_turn rows
+    → explain h rows order (t + 1) (set (replicate 1024 false) c true) ++ [] ≡ steps_of h rows c t
 unfolding steps_of
-walk_first h rows order found c t n e l =
-    let marks = set (replicate 1024 false) c true in
-    ap (λ (z : List ℕ). explain h rows order (t + 1) marks ++ z) (drop_all n found l)
-    ∙ append-nil _
-    ∙ ap (λ (z : List ℕ). explain h rows z (t + 1) marks) e
+walk_first h rows order c t e =
+    append-nil _ ∙ ap (λ (z : List ℕ). explain h rows z (t + 1) (set (replicate 1024 false) c true)) e

@@ -5,62 +5,52 @@ ghost use Rattle.model.specs.Faults.{answer, left};
 ghost use Rattle.model.specs.Explaining.{room_fault, told, listed};
 ghost use Rattle.model.specs.Explaining.{why_answer, rows_after, steps_after, Unfolds};
 ghost use Rattle.laws.specs.Concerned.{Steps};
-ghost use Rattle.laws.specs.Order.{Timely};
 
 use engine::grade;
 use model::fault::{Cause, Fault};
-use model::heap::Heap;
+use model::heap::{CELLS, Heap};
 use model::row::{Row, Why};
 use model::scheme::Scheme;
-use order::{CELLS, fetch};
+use order::Graded;
 use walk::walk;
 
 mod order;
 mod walk;
 
 // Copies the steps to the front of the list, if it holds them all, and counts them.
-fn hand_over(found: &[u16], steps: &mut [u16]) -> Result<u32, Fault>
-    requires { length found.now ≤ 1024 }
-    ensures answers { let path = found.now in
+fn hand_over(path: &[u16], steps: &mut [u16]) -> Result<u32, Fault>
+    requires { length path.now ≤ 1024 }
+    ensures answers { let path = path.now in
         result ≡ answer (room_fault path steps.old) (length path) }
-    ensures lists { let path = found.now in
+    ensures lists { let path = path.now in
         let old = steps.old in
         steps.new ≡ left (room_fault path old) (path ++ drop (length path) old) old }
 {
-    let count = found.len();
+    let count = path.len();
     if steps.len() < count {
-        return Err(Fault {
-            cause: Cause::StepsShort,
-            place: 0,
-        });
+        return Err(Cause::StepsShort.at(0));
     }
-    steps[..count].copy_from_slice(found);
+    // get_mut would not say that the places behind stand.
+    steps[..count].copy_from_slice(path);
     Ok(count as u32)
 }
 
 // Explains `cell` by the rows that grading left.
 fn tell<G: Copy, H: Heap>(
     heap: &H,
-    rows: &[Option<Row<G>>],
+    graded: &Graded<'_, G>,
     cell: u16,
     steps: &mut [u16],
 ) -> Result<Why<G>, Fault>
-    requires { (length rows.now ≡ 1024) × ((Timely rows.now) × (cell < 1024)) }
+    requires { cell < 1024 }
     ensures answers { let h = H.Heap.meaning heap.now in
-        result ≡ told h rows.now cell steps.old }
+        result ≡ told h graded.now.rows.now cell steps.old }
     ensures lists { let h = H.Heap.meaning heap.now in
-        steps.new ≡ listed h rows.now cell steps.old }
+        steps.new ≡ listed h graded.now.rows.now cell steps.old }
 {
-    let row = fetch(rows, cell);
-    let Some(row) = row else {
-        return Err(Fault {
-            cause: Cause::NotSettled,
-            place: 2,
-        });
-    };
-    let mut found = [0u16; 1024];
-    let first = walk(heap, rows, cell, row.turn, &mut found);
-    let count = hand_over(&found[first as usize..], steps)?;
+    let row = graded.rows[cell as usize].ok_or(Cause::NotSettled.at(2))?;
+    let path = walk(heap, graded, cell, row.turn);
+    let count = hand_over(&path, steps)?;
     Ok(Why {
         grade: row.grade,
         count,
@@ -98,17 +88,14 @@ pub fn why<S: Scheme, H: Heap>(
         IfOk result (λ w. Steps h graded cell (take w.count steps.new)) }
 {
     if rows.len() < CELLS as usize {
-        return Err(Fault {
-            cause: Cause::RowsShort,
-            place: 0,
-        });
+        return Err(Cause::RowsShort.at(0));
     }
-    if cell >= CELLS as u32 {
-        return Err(Fault {
-            cause: Cause::CellNumber,
-            place: 2,
-        });
+    if cell >= u32::from(CELLS) {
+        return Err(Cause::CellNumber.at(2));
     }
     grade(scheme, heap, rows)?;
-    tell(heap, &rows[..CELLS as usize], cell as u16, steps)
+    let graded = Graded {
+        rows: &rows[..CELLS as usize],
+    };
+    tell(heap, &graded, cell as u16, steps)
 }

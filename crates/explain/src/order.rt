@@ -1,43 +1,40 @@
 // The settled cells in order of turn.
-ghost use Rattle.std.specs.Prelude.{◌≡◌, ◌<◌, length, get_or, None, slice_index_or};
-ghost use Rattle.model.specs.Explaining.{placed, cells_by_turn};
+ghost use Rattle.std.specs.Prelude.{◌≡◌, ◌<◌, length};
+ghost use Rattle.model.specs.Explaining.{cells_by_turn};
 ghost use Rattle.laws.specs.Order.{Timely};
-ghost use Rattle.explain.specs.Walking.{Cells};
+ghost use Rattle.explain.specs.Walking.{Cells, holder_at};
 
+use model::heap::CELLS;
 use model::row::Row;
 
-// How many cells a heap has.
-pub(crate) const CELLS: u16 = 1024;
-
-pub(crate) fn fetch<G: Copy>(rows: &[Option<Row<G>>], cell: u16) -> Option<Row<G>>
-    requires { cell < length rows.now }
-    ensures { result ≡ slice_index_or rows.now cell None }
-{
-    rows[cell as usize]
+// The rows that grading left: one for each cell, and every turn is below 1,024.
+#[derive(Drop)]
+pub(crate) struct Graded<'a, G> {
+    pub(crate) rows: &'a [Option<Row<G>>],
+    ghost wide: { length rows.now ≡ 1024 },
+    ghost timely: { Timely rows.now },
 }
 
-// Notes `cell` at the place of its turn, if it is settled.
-fn place<G: Copy>(rows: &[Option<Row<G>>], cell: u16, order: &mut [u16])
-    requires rows_len { (length rows.now ≡ 1024) × (Timely rows.now) }
-    requires cell_bound { (cell < 1024) × (length order.old ≡ 1024) }
-    ensures { let row = get_or rows.now cell None in
-        order.new ≡ placed cell row order.old }
-{
-    let row = fetch(rows, cell);
-    if let Some(row) = row {
-        order[row.turn as usize] = cell;
+impl<'a, G: Copy> Graded<'a, G> {
+    // The record that holds `cell`.
+    pub(crate) fn holder(&self, cell: u16) -> u16
+        requires { cell < 1024 }
+        ensures { result ≡ holder_at self.now.rows.now cell }
+    {
+        self.rows[cell as usize].map_or(0, |row| row.holder)
     }
-}
 
-// The cell of each turn.
-pub(crate) fn by_turn<G: Copy>(rows: &[Option<Row<G>>]) -> [u16; 1024]
-    requires { (length rows.now ≡ 1024) × (Timely rows.now) }
-    ensures is { result ≡ cells_by_turn rows.now }
-    ensures cells { Cells result }
-{
-    let mut order = [0u16; 1024];
-    for cell in 0..CELLS {
-        place(rows, cell, &mut order);
+    // The cell of each turn.
+    pub(crate) fn by_turn(&self) -> [u16; CELLS as usize]
+        ensures is { result ≡ cells_by_turn self.now.rows.now }
+        ensures cells { Cells result }
+    {
+        let mut order = [0; CELLS as usize];
+        for (cell, row) in self.rows.iter().enumerate() {
+            if let Some(row) = row {
+                order[row.turn as usize] = cell as u16;
+            }
+        }
+        order
     }
-    order
 }

@@ -1,33 +1,22 @@
 // The walk down the turns, from a cell to the roots that it hangs on.
-ghost use Rattle.std.specs.Prelude.{◌≡◌, ◌+◌, ◌<◌, ◌≤◌, length, drop};
+ghost use Rattle.std.specs.Prelude.{◌≡◌, ◌<◌};
 ghost use Rattle.model.specs.Meaning.{record_at};
 ghost use Rattle.model.specs.Explaining.{sources_of, marked, steps_of};
-ghost use Rattle.laws.specs.Order.{Timely};
-ghost use Rattle.explain.specs.Walking.{holder_at, marks_next, steps_next};
 
-use crate::order::{CELLS, by_turn, fetch};
-use model::heap::Heap;
+use crate::order::Graded;
+use arrayvec::ArrayVec;
+use model::heap::{CELLS, Heap};
 use model::record::Record;
-use model::row::Row;
 
-fn holder<G: Copy>(rows: &[Option<Row<G>>], cell: u16) -> u16
-    requires { cell < length rows.now }
-    ensures { result ≡ holder_at rows.now cell }
-{
-    let row = fetch(rows, cell);
-    match row {
-        Some(row) => row.holder,
-        None => 0,
-    }
-}
+// As many steps as a cell can have: one for each cell.
+const STEPS: usize = CELLS as usize;
 
 // Marks the cells that record `number` draws on.
-fn mark_sources<H: Heap>(heap: &H, number: u16, marks: &mut [bool])
-    requires { length marks.old ≡ 1024 }
+fn mark_sources<H: Heap>(heap: &H, number: u16, marks: &mut [bool; CELLS as usize])
     ensures { let h = H.Heap.meaning heap.now in
         marks.new ≡ marked (sources_of (record_at h number)) marks.old }
 {
-    let Some(record) = heap.record(number as u32) else {
+    let Some(record) = heap.record(u32::from(number)) else {
         return;
     };
     match record {
@@ -40,57 +29,32 @@ fn mark_sources<H: Heap>(heap: &H, number: u16, marks: &mut [bool])
     }
 }
 
-// The turn of `cell`: if it is concerned, its holder goes before the steps found so far, which
-// begin at `first`, and the holder's sources are concerned as well.
-fn look_back<G: Copy, H: Heap>(
-    heap: &H,
-    rows: &[Option<Row<G>>],
-    cell: u16,
-    marks: &mut [bool],
-    found: &mut [u16],
-    first: u16,
-) -> u16
-    requires rows_len { (length rows.now ≡ 1024) × (cell < 1024) }
-    requires marks_len { (length marks.old ≡ 1024) × (length found.old ≡ 1024) }
-    requires first_nonzero { (0 < first) × (first ≤ 1024) }
-    ensures marks { let h = H.Heap.meaning heap.now in
-        marks.new ≡ marks_next h rows.now cell marks.old }
-    ensures steps { drop result found.new
-        ≡ steps_next rows.now cell marks.old (drop first found.old) }
-    ensures near { (first ≤ result + 1) × (result ≤ first) }
-{
-    if !marks[cell as usize] {
-        return first;
-    }
-    let number = holder(rows, cell);
-    mark_sources(heap, number, marks);
-    let before = first - 1;
-    found[before as usize] = number;
-    before
-}
-
-// Leaves the steps of `cell` at the end of `found`, and answers where they begin.
+// The steps of `cell`, which was settled in this turn: from the last turn down, each cell that is
+// concerned adds its holder, and the holder's sources are concerned as well.
 pub(crate) fn walk<G: Copy, H: Heap>(
     heap: &H,
-    rows: &[Option<Row<G>>],
+    graded: &Graded<'_, G>,
     cell: u16,
     turn: u16,
-    found: &mut [u16],
-) -> u16
-    requires rows_len { (length rows.now ≡ 1024) × (Timely rows.now) }
-    requires cell_bound { (cell < 1024) × ((turn < 1024) × (length found.old ≡ 1024)) }
-    ensures steps { let h = H.Heap.meaning heap.now in
-        drop result found.new ≡ steps_of h rows.now cell turn }
-    ensures within { result ≤ 1024 }
+) -> ArrayVec<u16, STEPS>
+    requires cell { cell < 1024 }
+    requires turn { turn < 1024 }
+    ensures { let h = H.Heap.meaning heap.now in
+        result.items ≡ steps_of h graded.now.rows.now cell turn }
 {
-    let order = by_turn(rows);
-    let mut marks = [false; 1024];
+    let order = graded.by_turn();
+    let mut marks = [false; CELLS as usize];
     marks[cell as usize] = true;
-    let mut first = CELLS;
-    let mut left = turn + 1;
-    while left > 0 {
-        left -= 1;
-        first = look_back(heap, rows, order[left as usize], &mut marks, found, first);
+    let mut steps = ArrayVec::new();
+    // By place: what is still to be explained are the places below it.
+    for place in (0..turn + 1).rev() {
+        let cell = order[place as usize];
+        if marks[cell as usize] {
+            let number = graded.holder(cell);
+            mark_sources(heap, number, &mut marks);
+            steps.push(number);
+        }
     }
-    first
+    steps.reverse();
+    steps
 }

@@ -1,7 +1,6 @@
 #![tactic(auto)]
 
-ghost use Rattle.std.specs.Prelude.{◌≡◌, take, IfOk, OnOk};
-ghost use Rattle.model.specs.Faults.{fault, answer};
+ghost use Rattle.std.specs.Prelude.{◌≡◌, ◌≤◌, length, take, IfErr, IfOk, OnOk};
 ghost use Rattle.model.specs.Sweeping.{sweep_fault, sweep_answer, sweep_after};
 ghost use Rattle.model.specs.Sweeping.{rows_swept, cells_swept, records_swept};
 ghost use Rattle.model.specs.Sweeping.{KeepsExactly, KeepsGrades, Lists, Dropped, Cleared};
@@ -10,39 +9,33 @@ ghost use Rattle.live.specs.Live.{meaning_of};
 use engine::grade;
 use lists::{list_cells, list_records};
 use live::live::LiveHeap;
-use marks::{CELLS, mark};
+use marks::mark;
 use model::fault::{Cause, Fault};
+use model::heap::{CELLS, RECORDS};
 use model::row::{Row, Swept};
 use model::scheme::Scheme;
 
 mod lists;
 mod marks;
 
-// How many records a heap has.
-const RECORDS: u16 = 4096;
-
-// The fault of working memory of which there is too little.
-fn short_of(cause: Cause) -> Fault
-    ensures { result ≡ fault cause 0 }
-{
-    Fault { cause, place: 0 }
-}
-
-// Whether the lent memory holds whatever a sweep may find.
+// Refuses working memory of which there is too little for whatever a sweep may find.
 fn judge<G>(rows: &[Option<Row<G>>], cells: &[u16], records: &[u16]) -> Result<(), Fault>
-    ensures { result ≡
-        answer (sweep_fault rows.now cells.now records.now) tt }
+    ensures fault { IfErr result (λ x. sweep_fault rows.now cells.now records.now ≡ Some x) }
+    ensures none { OnOk result (sweep_fault rows.now cells.now records.now ≡ None) }
+    ensures rows { OnOk result (1024 ≤ length rows.now) }
+    ensures cells { OnOk result (1024 ≤ length cells.now) }
+    ensures records { OnOk result (4096 ≤ length records.now) }
 {
-    if rows.len() < CELLS as usize {
-        return Err(short_of(Cause::RowsShort));
-    }
-    if cells.len() < CELLS as usize {
-        return Err(short_of(Cause::CellsShort));
-    }
-    if records.len() < RECORDS as usize {
-        return Err(short_of(Cause::RecordsShort));
-    }
-    Ok(())
+    let cause = if rows.len() < CELLS as usize {
+        Cause::RowsShort
+    } else if cells.len() < CELLS as usize {
+        Cause::CellsShort
+    } else if records.len() < RECORDS as usize {
+        Cause::RecordsShort
+    } else {
+        return Ok(());
+    };
+    Err(cause.at(0))
 }
 
 // Grades the cells of `heap` under `scheme`, and drops each that is not reached at all or whose

@@ -1,51 +1,16 @@
-use Rattle.std.proofs.Common.{sym, refl, ◌∙◌, arith}
-use Rattle.std.proofs.lemmas.Result.{err_from_is_err_and}
-use Rattle.explain.proofs.Tells.{told_err, told_ok, listed_as}
+use Rattle.std.proofs.Common.{◌≡◌, get_or, Some, None, Ok, Option, sym, ◌∙◌, arith}
+use Rattle.std.specs.Option.{ok_or}
+use Rattle.std.proofs.lemmas.List.{get_or_default}
 use Rattle.explain.proofs.tell.Goals as goal
 
-pub walk-first-requires : goal.walk-first-requires
-walk-first-requires g c =
-    let e = sym c.fetch-row.ensures ∙ c.in-Some.is in
-    let timely = c.requires.1.0 in
-    record {
-      rows_len = (c.requires.0, timely);
-      cell_bound = (c.requires.1.1, (timely c.args.cell c.in-Some.row e, refl));
-    }
+some_from_ok : {A E : Type 0} (o : Option A) (e : E) (x : A) → ok_or o e ≡ Ok x → o ≡ Some x
+some_from_ok None e x is = cc
+some_from_ok (Some y) e x is = cc
 
-pub returns-in_err-count : goal.returns-in_err-count
-returns-in_err-count g c =
-    let h = g.H.Heap.meaning c.args.heap.now in
-    let rows = c.args.rows.now in
-    let n = c.args.cell in
-    let steps = c.args.steps.now in
-    let row = c.in-Some.row in
-    let is = sym c.fetch-row.ensures ∙ c.in-Some.is in
-    let found = c.walk-first.new.found in
-    let first = c.walk-first.result in
-    let walked = c.walk-first.ensures.steps in
-    let p = err_from_is_err_and c.from_residual.result c.from_residual.ensures.1 in
-    record {
-      answers = told_err h rows n steps row is found first (omega arith) walked
-          c.in_err-count.field-0.0 p.0 c.from_residual.result p.1 p.2
-          c.in_err-count.ensures.answers;
-      lists = listed_as h rows n steps row is found first (omega arith) walked c.hand_over.new.steps
-          c.hand_over.ensures.lists;
-    }
-
-pub returns : goal.returns
-returns g c =
-    let h = g.H.Heap.meaning c.args.heap.now in
-    let rows = c.args.rows.now in
-    let n = c.args.cell in
-    let steps = c.args.steps.now in
-    let row = c.in-Some.row in
-    let is = sym c.fetch-row.ensures ∙ c.in-Some.is in
-    let found = c.walk-first.new.found in
-    let first = c.walk-first.result in
-    let walked = c.walk-first.ensures.steps in
-    record {
-      answers = told_ok h rows n steps row is found first (omega arith) walked c.in_ok-count.count
-          c.in_ok-count.ensures.answers;
-      lists = listed_as h rows n steps row is found first (omega arith) walked c.hand_over.new.steps
-          c.hand_over.ensures.lists;
-    }
+pub walk-path-requires-clause-turn : goal.walk-path-requires-clause-turn
+walk-path-requires-clause-turn g c =
+    let graded = c.args.graded.now in
+    let wide = graded.wide in
+    let rows = graded.rows.now in
+    let found = some_from_ok (get_or rows c.args.cell _) _ c.in_ok-row.row (sym c.ok_or.ensures.value ∙ c.in_ok-row.was) in
+    graded.timely c.args.cell c.in_ok-row.row (get_or_default rows c.args.cell None _ (omega arith) ∙ found)

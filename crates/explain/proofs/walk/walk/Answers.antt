@@ -1,45 +1,67 @@
-use Rattle.std.proofs.Common.{◌-◌, true, false, drop, replicate, ◌∙◌, arith}
-use Rattle.std.proofs.lemmas.List.{length-set, length-replicate}
+use Rattle.std.proofs.Common.{◌≡◌, ◌-◌, ◌∷◌, true, false, refl, replicate, length, get_or, reverse, ap, ◌∙◌, arith}
+use Rattle.std.proofs.lemmas.List.{length-set, length-replicate, length-reverse}
 use Rattle.model.specs.Explaining.{steps_of}
-use Rattle.explain.proofs.Walks.{walk_more, walk_end, walk_first}
+use Rattle.explain.proofs.Walks.{walk_first, walk_more, walk_end, found_more, marks_more, steps_more, marks_stand, steps_stand, refilled}
 use Rattle.explain.proofs.walk.walk.Goals as goal
 
-pub loop-left-init : goal.loop-left-init
-loop-left-init g c =
+pub loop-place-init : goal.loop-place-init
+loop-place-init g c =
     let h = g.H.Heap.meaning c.args.heap.now in
-    let order = c.by_turn-order in (
-      length-set (replicate 1024 false) c.args.cell true ∙ length-replicate 1024 false,
-      omega arith,
-      omega arith,
-      walk_first h c.args.rows.now order.result c.args.found.now c.args.cell
-          c.args.turn 1024 order.ensures.is (omega arith),
-    )
+    let rows = c.args.graded.now.rows.now in
+    let order = c.by_turn-order in
+    let empty = c.new-steps.ensures in
+    record {
+      wide = length-set (replicate 1024 false) c.args.cell true ∙ length-replicate 1024 false;
+      room = rw empty (omega arith);
+      steps = rw empty (walk_first h rows order.result c.args.cell c.args.turn order.ensures.is);
+    }
 
-pub loop-left-preserved : goal.loop-left-preserved
-loop-left-preserved g c =
+pub loop-place-preserved-then-marks-cell : goal.loop-place-preserved-then-marks-cell
+loop-place-preserved-then-marks-cell g c =
     let h = g.H.Heap.meaning c.args.heap.now in
-    let rows = c.args.rows.now in
-    let at = c.loop-left in
-    let back = c.look_back-first in
-    let marks = back.ensures.marks in
-    let steps = back.ensures.steps in
-    let more = walk_more h rows c.by_turn-order.result at.left (at.left - 1) at.marks
-    (drop at.first at.found) (omega arith) in
-    let now = at.invariant.3 in (
-      omega arith,
-      omega (arith, back.ensures.near.0),
-      omega (arith, back.ensures.near.1),
-      cc,
-    )
+    let rows = c.args.graded.now.rows.now in
+    let order = c.by_turn-order.result in
+    let at = c.loop-place in
+    let u = at.place - 1 in
+    let cell = get_or order u 0 in
+    let rest = reverse at.steps.items in
+    let after = c.mark_sources.new.marks in
+    let found = reverse c.push.new.self.items in
+    let number = c.holder-number.result in
+    let on = c.if-marks-cell.true in
+    let is = c.holder-number.ensures in
+    let pushed : found ≡ number ∷ rest =
+    ap reverse c.push.ensures.items ∙ found_more at.steps.items number in
+    let marks = marks_more h rows cell at.marks after found rest number on is c.mark_sources.ensures in
+    let steps = steps_more h rows cell at.marks after found rest number on is pushed in
+    let more = walk_more h rows order at.place u at.marks rest (omega arith) in
+    let now = at.invariant.steps in
+    record { wide = c.mark_sources.array_long; room = omega (arith, c.push.ensures.len, at.invariant.room); steps = cc }
+
+pub loop-place-preserved : goal.loop-place-preserved
+loop-place-preserved g c =
+    let h = g.H.Heap.meaning c.args.heap.now in
+    let rows = c.args.graded.now.rows.now in
+    let order = c.by_turn-order.result in
+    let at = c.loop-place in
+    let u = at.place - 1 in
+    let cell = get_or order u 0 in
+    let rest = reverse at.steps.items in
+    let off = c.if-marks-cell.false in
+    let marks = marks_stand h rows cell at.marks at.marks rest rest off refl in
+    let steps = steps_stand h rows cell at.marks at.marks rest rest off refl in
+    let more = walk_more h rows order at.place u at.marks rest (omega arith) in
+    let now = at.invariant.steps in
+    record { wide = at.invariant.wide; room = omega arith; steps = cc }
 
 pub returns : goal.returns
 returns g c =
     let h = g.H.Heap.meaning c.args.heap.now in
-    let rows = c.args.rows.now in
-    let at = c.loop-left in
-    record {
-      steps = walk_end h rows c.by_turn-order.result at.left at.marks
-          (drop at.first at.found)
-          (steps_of h rows c.args.cell c.args.turn) (omega arith) at.invariant.3;
-      within = at.invariant.2;
-    }
+    let rows = c.args.graded.now.rows.now in
+    let at = c.loop-place in
+    let found = at.steps.items in
+    let turned : c.reverse.new.self ≡ reverse found =
+    c.reverse.ensures.after ∙ ap reverse c.deref_mut.ensures.value in
+    refilled found c.reverse.new.self (ap length turned ∙ length-reverse found) ∙ turned
+    ∙ walk_end h rows c.by_turn-order.result at.place at.marks (reverse found)
+    (steps_of h rows c.args.cell c.args.turn) (omega arith) at.invariant.steps

@@ -1,8 +1,7 @@
-use Rattle.sweep.specs.Listing.{drops}
-use Rattle.sweep.proofs.Passes.{Listed}
+use Rattle.model.specs.Meaning.{cell_at}
+use Rattle.live.specs.Live.{meaning_of}
+use Rattle.sweep.specs.Listing.{picks, drops}
 use Rattle.sweep.proofs.lists.list_cells.Given as goal
 
-abbrev pub invariant-loop-cell : goal.invariant-loop-cell
-invariant-loop-cell g l =
-    let h = g.H.Heap.meaning l.heap in
-    Listed (drops l.kept) h.cells l.initial.cells l.cell l.count l.cells
+abbrev pub ghost-list : goal.ghost-list
+ghost-list a = λ n. picks (drops a.goes.1.now) n (cell_at (meaning_of a.goes.0.now) n)

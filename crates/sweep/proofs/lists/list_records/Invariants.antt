@@ -1,8 +1,7 @@
-use Rattle.sweep.specs.Listing.{clears}
-use Rattle.sweep.proofs.Passes.{Listed}
+use Rattle.model.specs.Meaning.{record_at}
+use Rattle.live.specs.Live.{meaning_of}
+use Rattle.sweep.specs.Listing.{picks, clears}
 use Rattle.sweep.proofs.lists.list_records.Given as goal
 
-abbrev pub invariant-loop-number : goal.invariant-loop-number
-invariant-loop-number g l =
-    let h = g.H.Heap.meaning l.heap in
-    Listed (clears l.kept) h.records l.initial.records l.number l.count l.records
+abbrev pub ghost-list : goal.ghost-list
+ghost-list a = λ n. picks (clears a.goes.1.now) n (record_at (meaning_of a.goes.0.now) n)
