@@ -1,7 +1,7 @@
 // Says what a saved heap's file holds: inspect FILE [SCHEME [CELL]]
 #![tactic(auto)]
 
-use anyhow::anyhow;
+use anyhow::{Context, ensure};
 use report::inspect::{Wanted, inspect};
 use std::io::Write;
 use std::process::ExitCode;
@@ -9,23 +9,20 @@ use std::{env, fs};
 use text::command::SchemeName;
 use text::number::value;
 
+const USAGE: &str = "usage: inspect FILE [SCHEME [CELL]]";
+
 // The scheme that an argument names by its letter.
 fn scheme_named(word: &str) -> anyhow::Result<SchemeName> {
-    let [letter] = word.as_bytes() else {
-        return Err(anyhow!("a scheme is one letter: s, b or d"));
+    let scheme = match word.as_bytes() {
+        [letter] => SchemeName::try_from(char::from(*letter)).ok(),
+        _ => None,
     };
-    match SchemeName::of(*letter as char) {
-        Some(scheme) => Ok(scheme),
-        None => Err(anyhow!("a scheme is one letter: s, b or d")),
-    }
+    scheme.context("a scheme is one letter: s, b or d")
 }
 
 // The cell that an argument names by its number.
 fn cell_named(word: &str) -> anyhow::Result<u32> {
-    match value(word.as_bytes()) {
-        Some(cell) => Ok(cell),
-        None => Err(anyhow!("a cell is a number")),
-    }
+    value(word.as_bytes()).context("a cell is a number")
 }
 
 fn what_is_wanted(scheme: Option<String>, cell: Option<String>) -> anyhow::Result<Wanted> {
@@ -41,15 +38,10 @@ fn what_is_wanted(scheme: Option<String>, cell: Option<String>) -> anyhow::Resul
 }
 
 fn run(rt: &HostRuntime) -> anyhow::Result<()> {
-    let mut words = env::args(rt)?;
-    let _ = words.next();
-    let Some(path) = words.next() else {
-        return Err(anyhow!("usage: inspect FILE [SCHEME [CELL]]"));
-    };
+    let mut words = env::args(rt)?.skip(1);
+    let path = words.next().context(USAGE)?;
     let wanted = what_is_wanted(words.next(), words.next())?;
-    if words.next().is_some() {
-        return Err(anyhow!("usage: inspect FILE [SCHEME [CELL]]"));
-    }
+    ensure!(words.next().is_none(), USAGE);
     let bytes = fs::read(rt, &path)?;
     let mut out = Vec::new(rt.alloc());
     inspect(&bytes, wanted, &mut out)?;

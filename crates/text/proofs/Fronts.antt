@@ -1,63 +1,64 @@
 -- How far the first word of a line goes, and how many words there are.
-use Rattle.std.proofs.Common.{◌≡◌, ℕ, suc, ◌+◌, ◌-◌, ◌<◌, ◌≤◌, Bool, true, false, cond, eqb, List, [], ◌∷◌, length, get_or, take, drop, sym, refl, ap, add-one, arith, drop-cons, eq-eqb, ne_eqb}
-use Rattle.std.proofs.lemmas.List.{drop_all}
+use Rattle.std.proofs.Common.{◌≡◌, ℕ, suc, ◌+◌, ◌≤◌, Bool, true, false, cond, not, eqb, List, [], ◌∷◌, length, take, drop, Some, None, Option, refl, ap, ◌∙◌, arith}
+use Rattle.std.proofs.lemmas.Bool.{ltb-false}
+use lib.Dec.{ltb}
+use Rattle.std.specs.List.{position_or_len, position, filter}
 use Rattle.text.specs.Words.{front, behind, word_count}
 
--- at a byte that is no space the first word goes on
-pub front_on : (bs : List ℕ) (i : ℕ) → i < length bs → (get_or bs i 0 ≡ 32 → ⊥)
-    → length (front (drop i bs)) ≡ 1 + length (front (drop (i + 1) bs))
-unfolding front
-front_on bs i l e = let f = ne_eqb (get_or bs i 0) 32 e in rw (add-one, drop-cons bs i 0, f) (omega arith)
+abbrev pub is_space : ℕ → Bool
+is_space b = eqb b 32
 
--- at a space it ends, and at the end of the line
-pub front_off : (bs : List ℕ) (i : ℕ) → i < length bs → get_or bs i 0 ≡ 32
-    → length (front (drop i bs)) ≡ 0
+-- the first word goes up to the first space
+pub front_before : (bs : List ℕ) → take (position_or_len is_space bs) bs ≡ front bs
 unfolding front
-front_off bs i l e = let f = eq-eqb (get_or bs i 0) 32 e in rw (drop-cons bs i 0, f)
-
-pub front_none : (bs : List ℕ) (i : ℕ) → length bs ≤ i → length (front (drop i bs)) ≡ 0
-unfolding front
-front_none bs i l = rw (drop_all i bs l)
-
--- the first word is the front part of the line
-front_taken : (bs : List ℕ) → front bs ≡ take (length (front bs)) bs
-unfolding front
-front_taken [] = refl
-front_taken (b ∷ bs) = go (eqb b 32) (front_taken bs)
+front_before [] = refl
+front_before (b ∷ bs) = go (eqb b 32) (front_before bs)
   where
-    go : (t : Bool) → front bs ≡ take (length (front bs)) bs
-        → cond t [] (b ∷ front bs) ≡ take (length (cond t [] (b ∷ front bs))) (b ∷ bs)
+    go : (t : Bool) → take (position_or_len is_space bs) bs ≡ front bs
+        → take (cond (not t) (1 + position_or_len is_space bs) 0) (b ∷ bs) ≡ cond t [] (b ∷ front bs)
     go true h = refl
-    go false h = ap (λ (xs : List ℕ). b ∷ xs) h
-
-pub front_part : (bs : List ℕ) (n : ℕ) → n ≡ length (front bs) → take (n - 0) bs ≡ front bs
-front_part bs n e = let f : n - 0 ≡ length (front bs) = omega arith in rw f (sym (front_taken bs))
+    go false h =
+        let n = position_or_len is_space bs in
+        ap (λ (m : ℕ). take m (b ∷ bs)) {x = 1 + n} {y = suc n} (omega arith)
+        ∙ ap (λ (xs : List ℕ). b ∷ xs) h
 
 -- the line behind it is the part after the space
-behind_dropped : (bs : List ℕ) → behind bs ≡ drop (suc (length (front bs))) bs
-unfolding front behind
-behind_dropped [] = refl
-behind_dropped (b ∷ bs) = go (eqb b 32) (behind_dropped bs)
+pub behind_after : (bs : List ℕ) → drop (position_or_len is_space bs + 1) bs ≡ behind bs
+unfolding behind
+behind_after [] = refl
+behind_after (b ∷ bs) = go (eqb b 32) (behind_after bs)
   where
-    go : (t : Bool) → behind bs ≡ drop (suc (length (front bs))) bs
-        → cond t bs (behind bs) ≡ drop (suc (length (cond t [] (b ∷ front bs)))) (b ∷ bs)
+    go : (t : Bool) → drop (position_or_len is_space bs + 1) bs ≡ behind bs
+        → drop (cond (not t) (1 + position_or_len is_space bs) 0 + 1) (b ∷ bs) ≡ cond t bs (behind bs)
     go true h = refl
-    go false h = h
-
-pub behind_part : (bs : List ℕ) (n : ℕ) → n ≡ length (front bs) → drop (n + 1) bs ≡ behind bs
-behind_part bs n e = rw (add-one, e) (sym (behind_dropped bs))
+    go false h =
+        let n = position_or_len is_space bs in
+        ap (λ (m : ℕ). drop m (b ∷ bs)) {x = 1 + n + 1} {y = suc (n + 1)} (omega arith) ∙ h
 
 -- each space brings a word more, and no other byte does
-pub count_on : (bs : List ℕ) (i : ℕ) → i < length bs → get_or bs i 0 ≡ 32
-    → word_count (drop i bs) ≡ 1 + word_count (drop (i + 1) bs)
+pub spaces_counted : (bs : List ℕ) → 1 + length (filter is_space bs) ≡ word_count bs
 unfolding word_count
-count_on bs i l e = let f = eq-eqb (get_or bs i 0) 32 e in rw (add-one, drop-cons bs i 0, f)
+spaces_counted [] = refl
+spaces_counted (b ∷ bs) = go (eqb b 32) (spaces_counted bs)
+  where
+    go : (t : Bool) → 1 + length (filter is_space bs) ≡ word_count bs
+        → 1 + length (cond t (b ∷ filter is_space bs) (filter is_space bs)) ≡ cond t 1 0 + word_count bs
+    go true h = omega (arith, h)
+    go false h = omega (arith, h)
 
-pub count_off : (bs : List ℕ) (i : ℕ) → i < length bs → (get_or bs i 0 ≡ 32 → ⊥)
-    → word_count (drop i bs) ≡ word_count (drop (i + 1) bs)
-unfolding word_count
-count_off bs i l e = let f = ne_eqb (get_or bs i 0) 32 e in rw (add-one, drop-cons bs i 0, f) (omega arith)
+-- the first space is where it was found
+pub space_found : (bs : List ℕ) (i : ℕ) → Some i ≡ position is_space bs → i ≡ position_or_len is_space bs
+space_found bs i = go (ltb (position_or_len is_space bs) (length bs))
+  where
+    go : (t : Bool) → Some i ≡ cond t (Some (position_or_len is_space bs)) None → i ≡ position_or_len is_space bs
+    go true e = cc
+    go false e = cc
 
-pub count_none : (bs : List ℕ) (i : ℕ) → length bs ≤ i → word_count (drop i bs) ≡ 1
-unfolding word_count
-count_none bs i l = rw (drop_all i bs l)
+-- and where none was found, all bytes stand before it
+pub no_space : (bs : List ℕ) → None ≡ position is_space bs → length bs ≤ position_or_len is_space bs
+no_space bs = go (ltb (position_or_len is_space bs) (length bs)) refl
+  where
+    go : (t : Bool) → ltb (position_or_len is_space bs) (length bs) ≡ t → ◌≡◌ {A = Option ℕ} None (cond t (Some (position_or_len is_space bs)) None)
+        → length bs ≤ position_or_len is_space bs
+    go true f e = cc
+    go false f e = ltb-false _ _ f

@@ -1,4 +1,3 @@
-pub mod Chains
 pub mod Digits
+pub mod Folding
 pub mod Fronts
-pub mod Spelling

@@ -1,6 +1,6 @@
 -- Words: what stands between single spaces (byte 32), each sorted by its bytes.
 -- Every space separates, so two in a row enclose an empty word.
-use Rattle.std.specs.Prelude.{ℕ, zero, suc, ◌+◌, Bool, cond, ◌&&◌, List, [], ◌∷◌, length, ◌==◌, nat_le}
+use Rattle.std.specs.Prelude.{ℕ, zero, suc, ◌+◌, Bool, cond, ◌&&◌, List, [], ◌∷◌, length, Some, None, Option, ◌==◌, nat_le}
 
 -- a word by what it can stand for, with the byte of the line where it begins
 pub data Lexeme : Type 0 where
@@ -59,6 +59,18 @@ reading line = record {
   third = word_from 0 line 3;
   fourth = word_from 0 line 4;
 }
+
+-- the digits of a word that may be a number
+abbrev pub digits_of : Lexeme → Option (List ℕ)
+digits_of (numeral ds at) = Some ds
+digits_of (letter b at) = None
+digits_of (other at) = None
+
+-- the letter that a word may be
+abbrev pub letter_of : Lexeme → Option ℕ
+letter_of (numeral ds at) = None
+letter_of (letter b at) = Some b
+letter_of (other at) = None
 
 -- where a word begins
 abbrev pub place_of : Lexeme → ℕ

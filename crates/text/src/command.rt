@@ -1,13 +1,18 @@
-ghost use Rattle.std.specs.Prelude.{◌≡◌, Ok};
+ghost use Rattle.std.specs.Prelude.{◌≡◌, Ok, Option};
+ghost use Rattle.std.specs.Option.{option_map, option_copied};
+ghost use Rattle.std.specs.Result.{result_ok};
+ghost use Rattle.model.specs.Strengths.{strength_number};
+ghost use Rattle.text.specs.Words.{place_of, digits_of, letter_of};
 ghost use Rattle.text.specs.Tokens.{lexeme_of, reading_of};
 ghost use Rattle.text.specs.Commands.{wanted, number_in, strength_letter, scheme_letter};
 ghost use Rattle.text.specs.Commands.{strength_in, scheme_in, counted, command_in};
 ghost use Rattle.text.specs.Commands.{put_in, root_in, link_in, tie_in, erase_in, grade_in, why_in};
 
 use crate::number::value;
-use crate::refusal::{Refusal, refused};
+use crate::refusal::Refusal;
 use crate::words::{Token, Words};
 use model::fault::Cause;
+use model::record::Strength;
 
 // The schemes that a script can name.
 #[derive(Clone, Copy, PartialEq, Eq, Debug)]
@@ -17,7 +22,8 @@ pub enum SchemeName {
     Depth,
 }
 
-// What a line asks for. Numbers are as the line gives them: the heap judges them.
+// What a line asks for. Numbers are as the line gives them, and a strength is a number too: the
+// heap judges them.
 #[derive(Clone, Copy, PartialEq, Eq, Debug)]
 pub enum Command {
     Put {
@@ -52,67 +58,87 @@ pub enum Command {
     },
 }
 
-fn strength(letter: char) -> Option<u32>
-    ensures { result ≡ strength_letter letter }
+// A letter that is no scheme's.
+#[derive(Clone, Copy, PartialEq, Eq, Debug)]
+pub struct NoScheme;
+
+// The scheme that a letter names, if it names one.
+impl TryFrom<char> for SchemeName {
+    type Error = NoScheme;
+
+    ghost try_from_gives = { λ letter res. result_ok res ≡ scheme_letter letter };
+
+    fn try_from(letter: char) -> Result<SchemeName, NoScheme> {
+        match letter {
+            's' => Ok(SchemeName::Strength),
+            'b' => Ok(SchemeName::Bytes),
+            'd' => Ok(SchemeName::Depth),
+            _ => Err(NoScheme),
+        }
+    }
+}
+
+// The strength that a letter names, if it names one. It is no `TryFrom`, since that trait
+// and `Strength` are both of other crates.
+fn strength_named(letter: char) -> Option<Strength>
+    ensures { option_map strength_number result ≡ strength_letter letter }
 {
     match letter {
-        's' => Some(0),
-        'f' => Some(1),
-        'w' => Some(2),
-        'p' => Some(3),
+        's' => Some(Strength::Strong),
+        'f' => Some(Strength::Soft),
+        'w' => Some(Strength::Weak),
+        'p' => Some(Strength::Phantom),
         _ => None,
     }
 }
 
-impl SchemeName {
-    // The scheme that a letter names.
-    pub fn of(letter: char) -> Option<SchemeName>
-        ensures { result ≡ scheme_letter letter }
+impl<'a> Token<'a> {
+    // The digits of the number that it may be.
+    fn digits(self) -> Option<&'a [u8]>
+        ensures { option_copied result ≡ digits_of (lexeme_of self.entry) }
     {
-        match letter {
-            's' => Some(SchemeName::Strength),
-            'b' => Some(SchemeName::Bytes),
-            'd' => Some(SchemeName::Depth),
-            _ => None,
+        match self {
+            Token::Number { digits, .. } => Some(digits),
+            Token::Letter { .. } | Token::Other { .. } => None,
         }
     }
-}
 
-fn want<T: Drop>(found: Option<T>, at: u32) -> Result<T, Refusal>
-    ensures { result ≡ wanted found at }
-{
-    match found {
-        Some(it) => Ok(it),
-        None => refused(Cause::BadWord, at),
+    // The letter that it may be.
+    fn letter(self) -> Option<char>
+        ensures { result ≡ letter_of (lexeme_of self.entry) }
+    {
+        match self {
+            Token::Letter { letter, .. } => Some(char::from(*letter)),
+            Token::Number { .. } | Token::Other { .. } => None,
+        }
     }
-}
 
-impl Token<'_> {
+    // What was found in it. A word in which nothing was found is refused.
+    fn want<T: Drop>(self, found: Option<T>) -> Result<T, Refusal>
+        ensures { result ≡ wanted found (place_of (lexeme_of self.entry)) }
+    {
+        found.ok_or(Refusal::at(Cause::BadWord, self.at()))
+    }
+
     fn number(self) -> Result<u32, Refusal>
         ensures { result ≡ number_in (lexeme_of self.entry) }
     {
-        match self {
-            Token::Number { digits, at } => want(value(digits), at),
-            Token::Letter { at, .. } | Token::Other { at } => refused(Cause::BadWord, at),
-        }
+        self.want(self.digits().and_then(value))
     }
 
     fn strength(self) -> Result<u32, Refusal>
         ensures { result ≡ strength_in (lexeme_of self.entry) }
     {
-        match self {
-            Token::Letter { letter, at } => want(strength(*letter as char), at),
-            Token::Number { at, .. } | Token::Other { at } => refused(Cause::BadWord, at),
-        }
+        self.want(self.letter().and_then(strength_named).map(u32::from))
     }
 
     fn scheme(self) -> Result<SchemeName, Refusal>
         ensures { result ≡ scheme_in (lexeme_of self.entry) }
     {
-        match self {
-            Token::Letter { letter, at } => want(SchemeName::of(*letter as char), at),
-            Token::Number { at, .. } | Token::Other { at } => refused(Cause::BadWord, at),
-        }
+        self.want(
+            self.letter()
+                .and_then(|letter| SchemeName::try_from(letter).ok()),
+        )
     }
 }
 
@@ -123,7 +149,7 @@ impl Words<'_> {
         if self.count == count {
             Ok(())
         } else {
-            refused(Cause::WordCount, 0)
+            Err(Refusal::at(Cause::WordCount, 0))
         }
     }
 
@@ -206,18 +232,15 @@ impl Words<'_> {
     pub fn command(&self) -> Result<Command, Refusal>
         ensures { result ≡ command_in (reading_of self.now) }
     {
-        let Token::Letter { letter, .. } = self.verb else {
-            return refused(Cause::NoCommand, 0);
-        };
-        match *letter as char {
-            'c' => self.put(),
-            'r' => self.root(),
-            'l' => self.link(),
-            'e' => self.tie(),
-            'x' => self.erase(),
-            'g' => self.grade(),
-            'w' => self.why(),
-            _ => refused(Cause::NoCommand, 0),
+        match self.verb.letter() {
+            Some('c') => self.put(),
+            Some('r') => self.root(),
+            Some('l') => self.link(),
+            Some('e') => self.tie(),
+            Some('x') => self.erase(),
+            Some('g') => self.grade(),
+            Some('w') => self.why(),
+            _ => Err(Refusal::at(Cause::NoCommand, 0)),
         }
     }
 }

@@ -1,5 +1,5 @@
 ghost use Rattle.std.specs.Prelude.{◌≡◌};
-ghost use Rattle.text.specs.Commands.{refuse};
+ghost use Rattle.model.specs.Faults.{fault as fault_at};
 
 use model::fault::{Cause, Fault};
 
@@ -10,12 +10,14 @@ pub struct Refusal {
     pub byte: u32,
 }
 
-// A fault of the text.
-pub(crate) fn refused<T>(cause: Cause, byte: u32) -> Result<T, Refusal>
-    ensures { result ≡ refuse cause byte }
-{
-    Err(Refusal {
-        fault: Fault { cause, place: byte },
-        byte,
-    })
+impl Refusal {
+    // A fault of the text, which stands at a byte of the line.
+    pub(crate) fn at(cause: Cause, byte: u32) -> Refusal
+        ensures { result ≡ record { fault = fault_at cause byte; byte = byte } }
+    {
+        Refusal {
+            fault: cause.at(byte),
+            byte,
+        }
+    }
 }

@@ -1,9 +1,9 @@
-ghost use Rattle.std.specs.Prelude.{◌≡◌, ◌+◌, ◌<◌, ◌≤◌, length, drop};
+ghost use Rattle.std.specs.Prelude.{◌≡◌, ◌+◌, ◌^◌, ◌<◌, ◌≤◌, length};
 ghost use Rattle.text.specs.Words.{lexeme, front, behind, word_count, reading, byte_of, place_of};
 ghost use Rattle.text.specs.Commands.{words_in};
 ghost use Rattle.text.specs.Tokens.{lexeme_of, reading_of, reading_if};
 
-use crate::refusal::{Refusal, refused};
+use crate::refusal::Refusal;
 use model::fault::Cause;
 
 const SPACE: u8 = b' ';
@@ -21,7 +21,7 @@ pub enum Token<'a> {
 }
 
 // The words of a line: how many there are, and the first five, which is as many
-// as a command has.
+// as a command has. They have names, so that none is read that is not there.
 #[derive(Clone, Copy)]
 pub struct Words<'a> {
     pub count: usize,
@@ -32,25 +32,11 @@ pub struct Words<'a> {
     pub fourth: Token<'a>,
 }
 
-// What `cut_word` finds: the first word, and the line behind the space that ends it.
-#[derive(Clone, Copy)]
-struct Cut<'a> {
-    word: Token<'a>,
-    rest: &'a [u8],
+// What is still to be read of a line, and the byte where it begins.
+#[derive(Drop)]
+struct Rest<'a> {
+    bytes: &'a [u8],
     at: u32,
-}
-
-// The index of the first space, or the length where there is none.
-fn before_space(bytes: &[u8]) -> usize
-    ensures value { result ≡ length (front bytes.now) }
-    ensures within { result ≤ length bytes.now }
-{
-    for (i, b) in bytes.iter().enumerate() {
-        if *b == SPACE {
-            return i;
-        }
-    }
-    bytes.len()
 }
 
 fn token_of<'a>(word: &'a [u8], at: u32) -> Token<'a>
@@ -63,42 +49,40 @@ fn token_of<'a>(word: &'a [u8], at: u32) -> Token<'a>
     }
 }
 
-// What is left of the bytes behind the first `n`.
-fn skip(bytes: &[u8], n: usize) -> &[u8]
-    ensures { result.now ≡ drop n bytes.now }
+// The bytes before the first space, and those behind it.
+fn cut_at_space(bytes: &[u8]) -> (&[u8], &[u8])
+    ensures before { result.0.now ≡ front bytes.now }
+    ensures behind { result.1.now ≡ behind bytes.now }
+    ensures within { length result.0.now + length result.1.now ≤ length bytes.now }
 {
-    if n < bytes.len() {
-        &bytes[n..]
-    } else {
-        &bytes[bytes.len()..]
+    match bytes.iter().position(|b| *b == SPACE) {
+        Some(i) => (&bytes[..i], &bytes[i + 1..]),
+        None => (bytes, &[]),
     }
 }
 
-fn cut_word<'a>(bytes: &'a [u8], at: u32) -> Cut<'a>
-    requires { at + length bytes.now < 1000 }
-    ensures word { lexeme_of result.word ≡ lexeme (front bytes.now) at }
-    ensures rest { result.rest.now ≡ behind bytes.now }
-    ensures next { result.at ≡ at + length (front bytes.now) + 1 }
-    ensures within { result.at + length result.rest.now ≤ at + length bytes.now + 1 }
-{
-    let end = before_space(bytes);
-    Cut {
-        word: token_of(&bytes[0..end], at),
-        rest: skip(bytes, end + 1),
-        at: at + end as u32 + 1,
+impl<'a> Rest<'a> {
+    // Takes the first word off, with the space that ends it.
+    fn next_word(&mut self) -> Token<'a>
+        requires fits { self.old.at + length self.old.bytes.now + 1 < 2 ^ 32 }
+        ensures word { lexeme_of result ≡ lexeme (front self.old.bytes.now) self.old.at }
+        ensures rest { self.new.bytes.now ≡ behind self.old.bytes.now }
+        ensures next { self.new.at ≡ self.old.at + length (front self.old.bytes.now) + 1 }
+        ensures within { self.new.at + length self.new.bytes.now
+            ≤ self.old.at + length self.old.bytes.now + 1 }
+    {
+        let (word, rest) = cut_at_space(self.bytes);
+        let token = token_of(word, self.at);
+        self.bytes = rest;
+        self.at += word.len() as u32 + 1;
+        token
     }
 }
 
 fn count_words(line: &[u8]) -> usize
     ensures { result ≡ word_count line.now }
 {
-    let mut count = 1;
-    for b in line {
-        if *b == SPACE {
-            count += 1;
-        }
-    }
-    count
+    1 + line.iter().filter(|b| **b == SPACE).count()
 }
 
 // The words of a line that is not too long.
@@ -106,18 +90,14 @@ fn read_words<'a>(line: &'a [u8]) -> Words<'a>
     requires { length line.now ≤ 80 }
     ensures { reading_of result ≡ reading line.now }
 {
-    let verb = cut_word(line, 0);
-    let first = cut_word(verb.rest, verb.at);
-    let second = cut_word(first.rest, first.at);
-    let third = cut_word(second.rest, second.at);
-    let fourth = cut_word(third.rest, third.at);
+    let mut rest = Rest { bytes: line, at: 0 };
     Words {
         count: count_words(line),
-        verb: verb.word,
-        first: first.word,
-        second: second.word,
-        third: third.word,
-        fourth: fourth.word,
+        verb: rest.next_word(),
+        first: rest.next_word(),
+        second: rest.next_word(),
+        third: rest.next_word(),
+        fourth: rest.next_word(),
     }
 }
 
@@ -127,7 +107,7 @@ impl<'a> Words<'a> {
         ensures { reading_if result ≡ words_in line.now }
     {
         if line.len() > LONGEST {
-            return refused(Cause::LineLong, LONGEST as u32);
+            return Err(Refusal::at(Cause::LineLong, LONGEST as u32));
         }
         Ok(read_words(line))
     }
@@ -147,7 +127,7 @@ impl<'a> Words<'a> {
 }
 
 impl Token<'_> {
-    fn at(self) -> u32
+    pub(crate) fn at(self) -> u32
         ensures { result ≡ place_of (lexeme_of self.entry) }
     {
         match self {

@@ -2,8 +2,11 @@
 ghost use Rattle.std.specs.Prelude.{[], ◌∷◌, decimal};
 ghost use Rattle.text.specs.Writing.{Writes};
 
+use itoa::Buffer;
 use std::alloc::AllocError;
 
+// The functions of this file promise in one way what `push` and `extend_from_slice` promise in two,
+// so that a text of many pieces adds up.
 pub fn write_byte(out: &mut Vec<u8>, b: u8) -> Result<(), AllocError>
     ensures { Writes result out.old (b ∷ []) out.new }
 {
@@ -14,18 +17,12 @@ pub fn write_byte(out: &mut Vec<u8>, b: u8) -> Result<(), AllocError>
 pub fn write_text(out: &mut Vec<u8>, text: &[u8]) -> Result<(), AllocError>
     ensures { Writes result out.old text.now out.new }
 {
-    out.extend_from_slice(text)?;
-    Ok(())
+    out.extend_from_slice(text)
 }
 
-// The digits of a number.
+// The digits of a number. `write!` would say nothing of when it fails.
 pub fn write_number(out: &mut Vec<u8>, n: u64) -> Result<(), AllocError>
     ensures { Writes result out.old (decimal n) out.new }
 {
-    if n < 10 {
-        return write_byte(out, b'0' + n as u8);
-    }
-    write_number(out, n / 10)?;
-    write_byte(out, b'0' + (n % 10) as u8)?;
-    Ok(())
+    write_text(out, Buffer::new().format(n).as_bytes())
 }
