@@ -3,35 +3,41 @@
 
 use script::script::Script;
 use std::io;
-use std::io::{Read, Write};
+use std::io::{BufRead, BufReader, Write};
 
+// As many bytes are read at a time.
 const CHUNK: usize = 65536;
 
 // Answers are written out once there are as many bytes of them.
 const ENOUGH: usize = 65536;
 
+fn write_out<W: Write>(output: &mut W, answers: &mut Vec<u8>) -> io::Result<()> {
+    output.write_all(answers)?;
+    answers.clear();
+    Ok(())
+}
+
 fn main(rt: HostRuntime) -> io::Result<()> {
-    let mut input = rt.stdin();
+    let mut input = BufReader::with_capacity(rt.alloc(), CHUNK, rt.stdin())?;
     let mut output = rt.stdout();
     let mut script = Script::new();
-    let mut chunk = vec![in rt.alloc(); 0u8; CHUNK]?;
-    let mut out = Vec::new(rt.alloc());
+    let mut answers = Vec::new(rt.alloc());
     for _ in 0..u64::MAX {
-        let count = input.read(&mut chunk)?;
-        if count == 0 {
+        let chunk = input.fill_buf()?;
+        if chunk.is_empty() {
             break;
         }
-        for byte in &chunk[0..count] {
-            script.take(*byte, &mut out)?;
-            if out.len() >= ENOUGH {
-                output.write_all(&out)?;
-                out.clear();
+        for byte in chunk {
+            script.take(*byte, &mut answers)?;
+            if answers.len() >= ENOUGH {
+                write_out(&mut output, &mut answers)?;
             }
         }
+        let count = chunk.len();
+        input.consume(count);
         // what a line has asked is answered before more is read
-        output.write_all(&out)?;
-        out.clear();
+        write_out(&mut output, &mut answers)?;
     }
-    script.end(&mut out)?;
-    output.write_all(&out)
+    script.end(&mut answers)?;
+    write_out(&mut output, &mut answers)
 }

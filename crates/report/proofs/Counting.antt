@@ -1,31 +1,18 @@
--- Counting filled places one by one.
-use Rattle.std.proofs.Common.{◌≡◌, ℕ, zero, suc, ◌+◌, ◌<◌, ◌≤◌, Bool, true, false, cond, List, [], ◌∷◌, length, get_or, take, is_some, None, Option, sym, ap, ◌∙◌, add-one, arith}
-use Rattle.std.proofs.lemmas.List.{take_all}
+-- The filled places of a heap, counted as it tells of one number after another.
+use Rattle.std.proofs.Common.{◌≡◌, ℕ, ◌<◌, List, [], ◌∷◌, length, map, get_or, is_some, None, Option, count_by, refl, sym, ap, ◌∙◌, arith}
+use Rattle.std.specs.List.{range_with_len}
+use Rattle.std.proofs.lemmas.List.FromFn.{fill_by_all}
+use Rattle.std.proofs.lemmas.Grind.{common_steps}
 use Rattle.report.specs.Count.{count_filled}
 
-more : {A : Type 0} (xs : List (Option A)) (i : ℕ) → i < length xs →
-    count_filled (take (suc i) xs) ≡ count_filled (take i xs) + cond (is_some (get_or xs i None)) 1 0
+-- to count the filled places is to count by the test for one
+pub filled-count_by : {A : Type 0} (xs : List (Option A)) → count_by is_some xs ≡ count_filled xs
 unfolding count_filled
-more [] i l = absurd (omega arith)
-more (x ∷ xs) zero l = omega arith
-more (x ∷ xs) (suc i) l = omega (arith, more xs i (omega arith))
+filled-count_by [] = refl
+filled-count_by (x ∷ xs) = grind (arith, common_steps, filled-count_by xs)
 
-module _ {A : Type 0} (xs : List (Option A)) (i n : ℕ) (l : i < length xs) (e : n ≡ count_filled
-    (take i xs)) where
-  pub count_one : true ≡ is_some (get_or xs i None) → n + 1 ≡ count_filled (take (i + 1) xs)
-  count_one f = rw (add-one i) (omega (
-    arith,
-    more xs i l ∙ ap (λ (t : Bool). count_filled
-        (take i xs) + cond t 1 0) (sym f),
-  ))
-
-  pub count_no : false ≡ is_some (get_or xs i None) → n ≡ count_filled (take (i + 1) xs)
-  count_no f = rw (add-one i) (omega (
-    arith,
-    more xs i l ∙ ap (λ (t : Bool). count_filled
-        (take i xs) + cond t 1 0) (sym f),
-  ))
-
-pub count_all : {A : Type 0} (xs : List (Option A)) (i n : ℕ) → length xs ≤ i → n ≡ count_filled
-    (take i xs) → n ≡ count_filled xs
-count_all xs i n l e = e ∙ ap count_filled (take_all i xs l)
+-- .. also where the places are told one by one
+pub filled-told : {A : Type 0} (at : ℕ → Option A) (xs : List (Option A)) (n : ℕ) → length xs ≡ n →
+    ((k : ℕ) → k < n → get_or xs k None ≡ at k) →
+    count_by is_some (map at (range_with_len 0 n)) ≡ count_filled xs
+filled-told at xs n e told = ap (count_by is_some) (sym (fill_by_all at xs n None e told)) ∙ filled-count_by xs

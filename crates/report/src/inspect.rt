@@ -14,7 +14,7 @@ use text::command::SchemeName;
 use text::refusal::Refusal;
 use text::write::{write_byte, write_number, write_text};
 
-// What is asked of a file, besides a summary.
+// What is asked of a file, besides a summary. The cases have names, which options would not have.
 #[derive(Clone, Copy)]
 pub enum Wanted {
     Summary,
@@ -27,14 +27,11 @@ fn print_summary<H: Heap>(out: &mut Vec<u8>, heap: &H) -> Result<(), AllocError>
     ensures { let text = summary_text (H.Heap.meaning heap.now) in
         Writes result out.old text out.new }
 {
-    let cells = filled_cells(heap) as u64;
-    let records = filled_records(heap) as u64;
     write_text(out, b"ok ")?;
-    write_number(out, cells)?;
+    write_number(out, u64::from(filled_cells(heap)))?;
     write_byte(out, b' ')?;
-    write_number(out, records)?;
-    write_byte(out, b'\n')?;
-    Ok(())
+    write_number(out, u64::from(filled_records(heap)))?;
+    write_byte(out, b'\n')
 }
 
 // A line with the grades.
@@ -43,8 +40,7 @@ fn print_grading<H: Heap>(out: &mut Vec<u8>, heap: &H, scheme: SchemeName) -> Re
         Writes result out.old text out.new }
 {
     print_scheme(out, heap, scheme)?;
-    write_byte(out, b'\n')?;
-    Ok(())
+    write_byte(out, b'\n')
 }
 
 // A line with the grades, and one with the explanation of a cell.
@@ -59,8 +55,7 @@ fn print_explanation<H: Heap>(
 {
     print_grading(out, heap, scheme)?;
     print_scheme_why(out, heap, scheme, cell)?;
-    write_byte(out, b'\n')?;
-    Ok(())
+    write_byte(out, b'\n')
 }
 
 fn print_wanted<H: Heap>(out: &mut Vec<u8>, heap: &H, wanted: Wanted) -> Result<(), AllocError>
@@ -68,7 +63,7 @@ fn print_wanted<H: Heap>(out: &mut Vec<u8>, heap: &H, wanted: Wanted) -> Result<
         Writes result out.old text out.new }
 {
     match wanted {
-        Wanted::Summary => write_text(out, b""),
+        Wanted::Summary => Ok(()),
         Wanted::Grades { scheme } => print_grading(out, heap, scheme),
         Wanted::Why { scheme, cell } => print_explanation(out, heap, scheme, cell),
     }
@@ -77,10 +72,12 @@ fn print_wanted<H: Heap>(out: &mut Vec<u8>, heap: &H, wanted: Wanted) -> Result<
 fn print_file_refusal(out: &mut Vec<u8>, fault: Fault) -> Result<(), AllocError>
     ensures { Writes result out.old (file_refusal_text fault) out.new }
 {
-    let byte = fault.place;
-    print_refusal(out, Refusal { fault, byte })?;
-    write_byte(out, b'\n')?;
-    Ok(())
+    let refusal = Refusal {
+        fault,
+        byte: fault.place,
+    };
+    print_refusal(out, refusal)?;
+    write_byte(out, b'\n')
 }
 
 fn print_heap<H: Heap>(out: &mut Vec<u8>, heap: &H, wanted: Wanted) -> Result<(), AllocError>
@@ -88,8 +85,7 @@ fn print_heap<H: Heap>(out: &mut Vec<u8>, heap: &H, wanted: Wanted) -> Result<()
         Writes result out.old text out.new }
 {
     print_summary(out, heap)?;
-    print_wanted(out, heap, wanted)?;
-    Ok(())
+    print_wanted(out, heap, wanted)
 }
 
 // Opens the file's bytes and prints what they hold: a summary and what else is wanted,

@@ -1,7 +1,6 @@
 -- Fed byte by byte, a script prints the answers to its lines.
-use Rattle.std.proofs.Common.{◌≡◌, ℕ, ◌+◌, ◌<◌, Bool, true, false, cond, eqb, List, [], ◌∷◌, ◌++◌, length, take, set, Result, sym, refl, ap, ◌∙◌, ap₂, inl, inr, append_assoc, append-nil, add-one, arith, length-append, length-take, take-suc-set, le-ltb, lt-ltb, eq-eqb, ne_eqb}
-use lib.Seq.{take-append-le}
-use Rattle.std.proofs.lemmas.List.{take_all}
+use Rattle.std.proofs.Common.{◌≡◌, ℕ, Bool, true, false, cond, eqb, List, [], ◌∷◌, ◌++◌, length, take, Result, sym, refl, ap, ◌∙◌, ap₂, inl, inr, append_assoc, append-nil, arith, length-append, length-take, le-ltb, lt-ltb, eq-eqb, ne_eqb}
+use Rattle.std.proofs.lemmas.List.{take_all, take-append-le}
 use Rattle.std.proofs.lemmas.Bool.{cases_lt}
 use Rattle.model.specs.Meaning.{Meaning}
 use Rattle.text.specs.declared.command.Command.{Command}
@@ -9,7 +8,7 @@ use Rattle.text.specs.declared.refusal.Refusal.{Refusal}
 use Rattle.text.specs.Words.{Reading}
 use Rattle.text.specs.Commands.{words_in, command_in, then}
 use Rattle.script.specs.Lines.{obeyed, heap_after, answer_line, after_if, outcome_text, placed, fault_of}
-use Rattle.script.specs.Scripts.{State, lines_of, onto_first, answers, output, kept, with_byte, end_prints, line_ended, line_answer, AnswersEachLine}
+use Rattle.script.specs.Scripts.{State, lines_of, onto_first, answers, output, with_byte, end_prints, line_ended, line_answer, AnswersEachLine}
 use Rattle.model.specs.Faults.{answer}
 
 -- the first 81 bytes say as much as the whole line
@@ -53,14 +52,6 @@ kept_cap h q b = ap (λ (l : List ℕ). record { heap = h; line = l }) (elim (ca
       let t = le-ltb (length (take 81 q)) 81 (omega arith) in
       rw t (sym (take-append-le 81 q (b ∷ []) l)))
 ])
-
--- a byte more in the buffer
-pub kept_more : (xs : List ℕ) (n b : ℕ) → length xs ≡ 81 → n < 81 → take (n + 1) (set xs n b) ≡ kept
-    (take n xs) b
-kept_more xs n b w l =
-    let e = length-take n xs in
-    let t = lt-ltb (length (take n xs)) 81 (omega arith) in
-    rw (add-one n, t) (take-suc-set xs n b (omega arith))
 
 -- lines the first of which began with q
 abbrev begun : List ℕ → List (List ℕ) → List (List ℕ)

@@ -11,7 +11,7 @@ use Rattle.model.specs.Grading.{rows_fault, grade_answer, grade_after}
 use Rattle.model.proofs.Steps.{graded_done}
 use Rattle.script.specs.Answers.{graded_text}
 use Rattle.script.specs.Lines.{grades_text, grading_text, text_unless}
-use Rattle.script.proofs.Results.{ok_same, ok_err}
+use Rattle.model.proofs.Faults.{ok_same, ok_err}
 
 -- k and `front` are the counts and the 1,024 rows that a grading answers and leaves
 module _ {G : Type 0} (show : G → List ℕ) (s : Scheme G) (law : Lawful s)

@@ -1,7 +1,4 @@
 pub mod Feeding
 pub mod Gradings
-pub mod Obeying
-pub mod Refusals
-pub mod Results
 pub mod RowTexts
 pub mod StepTexts

@@ -21,6 +21,10 @@ bytes_text n = decimal n
 abbrev pub depth_text : Depth → List ℕ
 depth_text g = decimal g.depth ++ codes "." ++ decimal g.tie
 
+-- a number behind a space
+abbrev pub number_text : ℕ → List ℕ
+number_text n = codes " " ++ decimal n
+
 -- no, the layer's letter, the number, the byte where the word begins
 abbrev pub refusal_text : Refusal → List ℕ
 refusal_text r =
@@ -48,7 +52,7 @@ graded_text show k rows =
 
 -- the steps, each behind a space
 abbrev pub step_text : ℕ → List ℕ
-step_text r = codes " " ++ decimal r
+step_text r = number_text r
 
 unfoldable pub steps_text : List ℕ → List ℕ
 steps_text [] = []

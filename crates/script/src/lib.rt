@@ -1,6 +1,5 @@
 #![tactic(auto)]
 
-mod buffer;
 pub mod line;
 pub mod print;
 pub mod script;

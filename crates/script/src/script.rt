@@ -5,16 +5,19 @@ ghost use Rattle.script.specs.Scripts.{line_ended, line_answer, after_byte, byte
 ghost use Rattle.script.specs.Scripts.{after_end, end_prints, AnswersEachLine};
 ghost use Rattle.script.specs.Held.{state_of};
 
-use crate::buffer::Buffer;
 use crate::line::answer;
+use arrayvec::ArrayVec;
 use live::live::LiveHeap;
 use std::alloc::AllocError;
+
+// As much of a line as is kept: one byte more than a line may have.
+const KEPT: usize = 81;
 
 // A script whose bytes come in one after another: its heap, and the line so far.
 #[derive(Drop)]
 pub struct Script {
     heap: LiveHeap,
-    line: Buffer,
+    line: ArrayVec<u8, KEPT>,
 }
 
 impl Script {
@@ -25,7 +28,7 @@ impl Script {
     {
         Script {
             heap: LiveHeap::new(),
-            line: Buffer::new(),
+            line: ArrayVec::new(),
         }
     }
 
@@ -35,7 +38,7 @@ impl Script {
         ensures writes { let st = state_of self.old in
             Writes result out.old (line_answer st) out.new }
     {
-        let result = answer(&mut self.heap, self.line.text(), out);
+        let result = answer(&mut self.heap, self.line.as_slice(), out);
         self.line.clear();
         result
     }
@@ -49,7 +52,8 @@ impl Script {
         if byte == b'\n' {
             return self.end_line(out);
         }
-        self.line.push(byte);
+        // A longer line is refused whatever it says, so what does not fit may go.
+        let _ = self.line.try_push(byte);
         Ok(())
     }
 

@@ -8,6 +8,7 @@ use schemes::depth::Depth;
 use std::alloc::AllocError;
 use text::write::{write_byte, write_number};
 
+// Not `Display`: of `write!` into a `Vec` no clause says that it fails only for want of room.
 pub trait Shown: Copy {
     ghost text: { Self → List ℕ };
 
@@ -19,7 +20,7 @@ impl Shown for Strength {
     ghost text = { strength_text };
 
     fn write(self, out: &mut Vec<u8>) -> Result<(), AllocError> {
-        write_number(out, self.number() as u64)
+        write_number(out, u64::from(u32::from(self)))
     }
 }
 
@@ -27,7 +28,7 @@ impl Shown for u32 {
     ghost text = { bytes_text };
 
     fn write(self, out: &mut Vec<u8>) -> Result<(), AllocError> {
-        write_number(out, self as u64)
+        write_number(out, u64::from(self))
     }
 }
 
@@ -35,9 +36,8 @@ impl Shown for Depth {
     ghost text = { depth_text };
 
     fn write(self, out: &mut Vec<u8>) -> Result<(), AllocError> {
-        write_number(out, self.depth as u64)?;
+        write_number(out, u64::from(self.depth))?;
         write_byte(out, b'.')?;
-        write_number(out, self.tie as u64)?;
-        Ok(())
+        write_number(out, u64::from(self.tie))
     }
 }

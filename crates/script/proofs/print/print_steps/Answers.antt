@@ -1,21 +1,20 @@
-use Rattle.text.proofs.Spelling.{failed}
-use Rattle.script.proofs.StepTexts.{step_more, step_full, steps_none, steps_all}
+use Rattle.std.proofs.Common.{arith, ◌+◌}
+use Rattle.std.proofs.lemmas.Grind.{common_steps}
+use Rattle.script.specs.Answers.{steps_text}
+use Rattle.script.proofs.StepTexts.{steps_split, steps_more}
 use Rattle.script.proofs.print.print_steps.Goals as goal
 
 pub loop-step-init : goal.loop-step-init
-loop-step-init c = steps_none c.args.out.now
-
-pub returns-in_err-print_step : goal.returns-in_err-print_step
-returns-in_err-print_step c =
-    failed c.from_residual.result _ c.from_residual.ensures.0
-    (step_full c.args.steps.now c.loop-step.step-index c.loop-step-test.true
-    c.loop-step.invariant c.in_err-print_step.ensures)
+unfolding steps_text
+loop-step-init c = grind (arith, common_steps)
 
 pub loop-step-preserved : goal.loop-step-preserved
 loop-step-preserved c =
-    step_more c.args.steps.now c.loop-step.step-index c.loop-step-test.true
-    c.loop-step.invariant c.in_ok-print_step.ensures
+    let e = steps_more c.args.steps.now c.loop-step.step-index c.loop-step-test.true in
+    grind (arith, common_steps, e)
 
-pub returns : goal.returns
-returns c = steps_all c.args.steps.now c.loop-step.step-index c.loop-step-test.false
-    c.loop-step.invariant
+pub returns-in_err-print_number : goal.returns-in_err-print_number
+returns-in_err-print_number c =
+    let e = steps_more c.args.steps.now c.loop-step.step-index c.loop-step-test.true in
+    let f = steps_split c.args.steps.now (c.loop-step.step-index + 1) in
+    grind (arith, common_steps, e, f)
