@@ -1,4 +1,5 @@
 // Which heaps are tried.
+use model::heap::LARGEST_SIZE;
 use trials::dice::Dice;
 use trials::shapes::{Plan, Shape};
 
@@ -50,7 +51,7 @@ fn any_largest(dice: &mut Dice) -> u32 {
     match dice.roll(3) {
         0 => 1,
         1 => 4,
-        _ => 1048576,
+        _ => LARGEST_SIZE,
     }
 }
 

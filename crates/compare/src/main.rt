@@ -14,6 +14,7 @@ mod kinds;
 mod score;
 mod scores;
 mod sweeps;
+mod trial;
 
 fn try_kind(dice: &mut Dice, scores: &mut Scores, kind: Kind, shape: Shape) {
     for _ in 0..kind.each {
@@ -27,7 +28,7 @@ fn try_kind(dice: &mut Dice, scores: &mut Scores, kind: Kind, shape: Shape) {
 
 fn main(rt: HostRuntime) -> io::Result<()> {
     let mut dice = Dice::new(1024);
-    let mut scores = Scores::new();
+    let mut scores = Scores::default();
     for kind in KINDS {
         for shape in SHAPES {
             try_kind(&mut dice, &mut scores, kind, shape);

@@ -2,22 +2,14 @@ use std::fmt;
 
 // How often two answers were held against each other, how often they differed, and how much there
 // was to compare where they did not.
-#[derive(Clone, Copy)]
+#[derive(Clone, Copy, Default)]
 pub struct Score {
-    pub tried: u32,
-    pub differ: u32,
-    pub found: u32,
+    tried: u32,
+    differ: u32,
+    found: u32,
 }
 
 impl Score {
-    pub fn new() -> Self {
-        Score {
-            tried: 0,
-            differ: 0,
-            found: 0,
-        }
-    }
-
     // Notes how much was found the same, or nothing where the answers differ.
     pub fn note(&mut self, same: Option<u32>) {
         self.tried = self.tried.saturating_add(1);

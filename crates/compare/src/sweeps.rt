@@ -1,194 +1,131 @@
 // Sweeps, held against what the naive grades say is to be kept.
-use crate::gradings::is_same;
+use crate::trial::Trial;
 use live::live::LiveHeap;
-use model::fault::Fault;
-use model::heap::Heap;
+use model::heap::{CELLS, Heap, RECORDS};
 use model::record::Record;
-use model::row::Row;
 use model::scheme::{Rank, Scheme};
 use naive::grades::fetch;
 use sweep::sweep;
-use trials::fill::{CELLS, RECORDS, differences, fill, rebuilt};
+use trials::fill::rebuilt;
 
 // What the places of a list hold that no number was written to.
-const BLANK: u16 = 0xffff;
+const BLANK: u16 = u16::MAX;
 
-// The cells that a sweep keeps.
+// What a sweep is to leave of a heap. Which cells it keeps is told from the naive grades alone, by
+// no code of the heap that is swept.
 #[derive(Clone, Copy)]
-struct Kept {
-    cells: [bool; 1024],
+struct Rest<'a> {
+    heap: &'a LiveHeap,
+    keeps: [bool; CELLS as usize],
 }
 
-impl Kept {
-    fn at<S: Scheme>(scheme: &S, grades: &[Option<S::Grade>], limit: S::Grade) -> Self {
-        let mut cells = [false; 1024];
-        for cell in 0..1024u16 {
-            if let Some(grade) = fetch(grades, cell) {
-                cells[cell as usize] = !matches!(scheme.rank(grade, limit), Rank::After);
-            }
-        }
-        Kept { cells }
+impl Rest<'_> {
+    fn keeps(&self, cell: u16) -> bool {
+        self.keeps.get(usize::from(cell)) == Some(&true)
     }
 
-    fn has(&self, cell: u16) -> bool {
-        match self.cells.get(cell as usize) {
-            Some(kept) => *kept,
-            None => false,
-        }
-    }
-
-    fn has_all(&self, record: Record) -> bool {
+    fn keeps_all(&self, record: Record) -> bool {
         match record {
-            Record::Root { target } => self.has(target),
-            Record::Link { source, target, .. } => self.has(source) && self.has(target),
+            Record::Root { target } => self.keeps(target),
+            Record::Link { source, target, .. } => self.keeps(source) && self.keeps(target),
             Record::Ephemeron { table, key, value } => {
-                self.has(table) && self.has(key) && self.has(value)
+                self.keeps(table) && self.keeps(key) && self.keeps(value)
             }
         }
     }
-}
 
-// Numbers that a sweep is to list.
-#[derive(Clone, Copy)]
-struct List {
-    numbers: [u16; 4096],
-    count: usize,
-}
-
-impl List {
-    fn new() -> Self {
-        List {
-            numbers: [BLANK; 4096],
-            count: 0,
-        }
+    fn cell(&self, n: u16) -> Option<u32> {
+        self.heap.cell(u32::from(n)).filter(|_| self.keeps(n))
     }
 
-    fn add(&mut self, number: u16) {
-        if let Some(place) = self.numbers.get_mut(self.count) {
-            *place = number;
-        }
-        self.count = self.count.saturating_add(1);
+    fn record(&self, n: u16) -> Option<Record> {
+        self.heap
+            .record(u32::from(n))
+            .filter(|&record| self.keeps_all(record))
     }
 
-    // Whether a list begins with exactly these numbers, so many by count, and is blank behind them.
-    fn is(&self, listed: &[u16], count: u32) -> bool {
-        for (n, number) in listed.iter().enumerate() {
-            if self.numbers.get(n) != Some(number) {
-                return false;
-            }
-        }
-        self.count == count as usize
-    }
-}
-
-// What is to be left of a heap, and what of it is to go.
-#[derive(Drop)]
-struct Rest {
-    heap: LiveHeap,
-    cells: List,
-    records: List,
-}
-
-impl Rest {
-    fn add_cells(&mut self, heap: &LiveHeap, kept: &Kept) -> Result<(), Fault> {
-        for n in 0..CELLS {
-            if let Some(size) = heap.cell(n) {
-                if kept.has(n as u16) {
-                    self.heap.put(n, size)?;
-                } else {
-                    self.cells.add(n as u16);
-                }
-            }
-        }
-        Ok(())
+    // Whether a swept heap is what is to be left.
+    fn is_left(&self, swept: &LiveHeap) -> bool {
+        (0..CELLS).all(|n| swept.cell(u32::from(n)) == self.cell(n))
+            && (0..RECORDS).all(|n| swept.record(u32::from(n)) == self.record(n))
     }
 
-    fn add_records(&mut self, heap: &LiveHeap, kept: &Kept) -> Result<(), Fault> {
-        for n in 0..RECORDS {
-            if let Some(record) = heap.record(n) {
-                if kept.has_all(record) {
-                    fill(&mut self.heap, n, record)?;
-                } else {
-                    self.records.add(n as u16);
-                }
-            }
-        }
-        Ok(())
+    // Whether the cells that are to go are listed.
+    fn lists_cells(&self, listed: &[u16], count: u32) -> bool {
+        lists(
+            listed,
+            count,
+            |n| self.heap.cell(u32::from(n)) != self.cell(n),
+        )
     }
 
-    fn of(heap: &LiveHeap, kept: &Kept) -> Result<Self, Fault> {
-        let mut rest = Rest {
-            heap: LiveHeap::new(),
-            cells: List::new(),
-            records: List::new(),
-        };
-        rest.add_cells(heap, kept)?;
-        rest.add_records(heap, kept)?;
-        Ok(rest)
+    fn lists_records(&self, listed: &[u16], count: u32) -> bool {
+        lists(
+            listed,
+            count,
+            |n| self.heap.record(u32::from(n)) != self.record(n),
+        )
     }
 }
 
-// Whether the kept cells of a swept heap have the grades that they had, and no other cell has one.
-fn keeps_grades<S: Scheme>(
-    scheme: &S,
-    swept: &LiveHeap,
-    kept: &Kept,
-    grades: &[Option<S::Grade>],
-    after: &mut [Option<S::Grade>],
-) -> bool {
-    if !naive::passes::grade(scheme, swept, after) {
+// Whether a list begins with exactly the numbers that are to go, so many by count, and is blank
+// behind them.
+fn lists<F: Fn(u16) -> bool>(listed: &[u16], count: u32, goes: F) -> bool
+    requires { F.IsAlwaysCallable goes }
+{
+    let Some((front, behind)) = listed.split_at_checked(count as usize) else {
         return false;
-    }
-    for cell in 0..1024u16 {
-        let grade = if kept.has(cell) {
-            fetch(grades, cell)
-        } else {
-            None
-        };
-        if !is_same(scheme, fetch(after, cell), grade) {
-            return false;
-        }
-    }
-    true
+    };
+    let numbers = (0..RECORDS).filter(|&n| goes(n));
+    front.iter().copied().eq(numbers) && behind.iter().all(|&n| n == BLANK)
 }
 
-// Sweeps a copy of a heap, and says whether exactly what is to go is listed and gone.
-fn drops_rest<S: Scheme>(
-    scheme: &S,
-    swept: &mut LiveHeap,
-    rest: &Rest,
-    limit: S::Grade,
-    rows: &mut [Option<Row<S::Grade>>],
-) -> bool {
-    let mut cells = [BLANK; 1024];
-    let mut records = [BLANK; 4096];
-    match sweep(scheme, swept, limit, rows, &mut cells, &mut records) {
-        Ok(counts) => {
-            rest.cells.is(&cells, counts.cells)
-                && rest.records.is(&records, counts.records)
-                && differences(&rest.heap, swept) == 0
+impl<S: Scheme> Trial<'_, S>
+where
+    S::Grade: PartialEq,
+{
+    // What is to be left by a sweep at a limit.
+    fn rest(&self, limit: S::Grade) -> Rest<'_> {
+        let mut keeps = [false; CELLS as usize];
+        for (keep, grade) in keeps.iter_mut().zip(&self.grades) {
+            *keep = grade.is_some_and(|grade| self.scheme.rank(grade, limit) != Rank::After);
         }
-        Err(_) => false,
+        Rest {
+            heap: self.heap,
+            keeps,
+        }
     }
-}
 
-// Sweeps a copy of a heap, and counts the cells that went where the sweep was right.
-pub fn compared<S: Scheme>(
-    scheme: &S,
-    heap: &LiveHeap,
-    limit: S::Grade,
-    grades: &[Option<S::Grade>],
-    rows: &mut [Option<Row<S::Grade>>],
-    after: &mut [Option<S::Grade>],
-) -> Option<u32> {
-    let kept = Kept::at(scheme, grades, limit);
-    let mut swept = rebuilt(heap).ok()?;
-    let rest = Rest::of(heap, &kept).ok()?;
-    if drops_rest(scheme, &mut swept, &rest, limit, rows)
-        && keeps_grades(scheme, &swept, &kept, grades, after)
-    {
-        Some(rest.cells.count.min(1024) as u32)
-    } else {
-        None
+    // Whether the kept cells of a swept heap have the grades that they had, and no other cell has
+    // one.
+    fn keeps_grades(&self, swept: &LiveHeap, rest: &Rest) -> bool {
+        let mut after = [None; CELLS as usize];
+        naive::passes::grade(self.scheme, swept, &mut after)
+            && (0..CELLS).all(|cell| {
+                fetch(&after, cell) == fetch(&self.grades, cell).filter(|_| rest.keeps(cell))
+            })
+    }
+
+    // Sweeps a copy of the heap, and counts the cells that went where the sweep was right: exactly
+    // what is to go is listed and gone, and the grades are what they were.
+    pub fn sweep(&mut self, limit: S::Grade) -> Option<u32> {
+        let mut swept = rebuilt(self.heap).ok()?;
+        let mut cells = [BLANK; CELLS as usize];
+        let mut records = [BLANK; RECORDS as usize];
+        let gone = sweep(
+            self.scheme,
+            &mut swept,
+            limit,
+            &mut self.rows,
+            &mut cells,
+            &mut records,
+        )
+        .ok()?;
+        let rest = self.rest(limit);
+        let right = rest.lists_cells(&cells, gone.cells)
+            && rest.lists_records(&records, gone.records)
+            && rest.is_left(&swept)
+            && self.keeps_grades(&swept, &rest);
+        right.then_some(gone.cells)
     }
 }

@@ -24,7 +24,7 @@ fn is_sound(memory: Global, shown: &Snapshot, file: &[u8]) -> Result<bool, Alloc
     };
     let again = file_of(memory, &heap)?;
     let same = differences(&heap, shown) == 0 && have_same_grades(&heap, shown);
-    Ok(same && &again[..] == file)
+    Ok(same && again.as_slice() == file)
 }
 
 // Whether a refusal speaks of a place of the file, and the heap that was shown before is shown.

@@ -3,6 +3,7 @@
 #![tactic(auto)]
 
 use files::try_heap;
+use model::heap::LARGEST_SIZE;
 use std::alloc::{AllocError, Global};
 use std::io;
 use trials::dice::Dice;
@@ -31,7 +32,7 @@ fn try_shape(
         shape,
         cells: 1 + dice.roll(12),
         records: dice.roll(30),
-        largest: 1048576,
+        largest: LARGEST_SIZE,
     };
     match heap_of(dice, plan) {
         Ok(heap) => try_heap(memory, dice, tally, &heap, WAYS),

@@ -1,9 +1,7 @@
 // Damage to a file's bytes.
+use crate::file::HEAD;
 use std::alloc::AllocError;
 use trials::dice::Dice;
-
-// The bytes before the first section.
-const HEAD: usize = 36;
 
 fn any_place(dice: &mut Dice, from: usize, len: usize) -> usize {
     let span = len.saturating_sub(from).min(65536) as u32;
@@ -25,14 +23,14 @@ fn change(dice: &mut Dice, file: &mut Vec<u8>, from: usize) {
 
 // Copies a field of an entry over another.
 fn copy_field(dice: &mut Dice, file: &mut Vec<u8>) {
-    let fields = file.len().saturating_sub(HEAD) / 2;
-    let from = HEAD.saturating_add(2 * any_place(dice, 0, fields).min(32768));
-    let to = HEAD.saturating_add(2 * any_place(dice, 0, fields).min(32768));
-    for n in 0..2 {
-        let byte = file.get(from + n).copied();
-        if let (Some(byte), Some(place)) = (byte, file.get_mut(to + n)) {
-            *place = byte;
-        }
+    let Some((_, entries)) = file.split_at_mut_checked(HEAD as usize) else {
+        return;
+    };
+    let (fields, _) = entries.as_chunks_mut::<2>();
+    let from = any_place(dice, 0, fields.len());
+    let to = any_place(dice, 0, fields.len());
+    if let (Some(field), Some(place)) = (fields.get(from).copied(), fields.get_mut(to)) {
+        *place = field;
     }
 }
 
@@ -63,10 +61,10 @@ pub fn spoil(dice: &mut Dice, file: &mut Vec<u8>) -> Result<(), AllocError> {
         }
         2 => change(dice, file, 0),
         3 | 4 => shift_boundary(dice, file),
-        5 | 6 | 7 => copy_field(dice, file),
+        5..=7 => copy_field(dice, file),
         _ => {
             for _ in 0..1 + dice.roll(3) {
-                change(dice, file, HEAD);
+                change(dice, file, HEAD as usize);
             }
         }
     }

@@ -1,1 +1,1 @@
-mod Elsewhere
+mod Alone

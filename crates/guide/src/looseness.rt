@@ -29,13 +29,7 @@ impl Scheme for ByLooseness {
     ghost lawful = { Prim.search rules };
 
     fn rank(&self, a: u32, b: u32) -> Rank {
-        if a < b {
-            Rank::Before
-        } else if a == b {
-            Rank::Same
-        } else {
-            Rank::After
-        }
+        a.cmp(&b).into()
     }
 
     fn start(&self, _number: u16, _size: u32) -> u32 {
@@ -47,6 +41,6 @@ impl Scheme for ByLooseness {
     }
 
     fn join(&self, _number: u16, _size: u32, table: u32, key: u32) -> u32 {
-        if table < key { key } else { table }
+        table.max(key)
     }
 }

@@ -6,10 +6,7 @@ use std::test::Fail;
 
 #[test]
 fn the_only_cell_is_held_by_the_only_root(rt: HostRuntime) -> Result<(), Fail> {
-    let Some(heap) = OnlyRoot::new(10) else {
-        assert!(rt; false, "10 is a size");
-        return Ok(());
-    };
+    let heap = OnlyRoot::new(10).expect(&rt, "10 is a size");
     let mut rows = [None; 1024];
     let counts = grade(&ByLooseness, &heap, &mut rows)?;
     assert_eq!(rt;

@@ -1,17 +1,13 @@
 // What grading counts, counted again from the grades.
-ghost use Rattle.std.specs.Prelude.{◌≡◌, take, is_some, None, count_by, slice_index_or};
+ghost use Rattle.std.specs.Prelude.{◌≡◌, map, take, is_some, None, count_by, slice_index_or};
+ghost use Rattle.std.specs.List.{range_with_len};
 ghost use Rattle.model.specs.Meaning.{record_at};
 ghost use Rattle.naive.specs.Resting.{all_graded, ready_by};
 
 use crate::grades::fetch;
-use model::heap::Heap;
+use model::heap::{CELLS, Heap, RECORDS};
 use model::record::Record;
 use model::row::Counts;
-
-// How many cells and how many records a heap has.
-const CELLS: u16 = 1024;
-
-const RECORDS: u16 = 4096;
 
 fn is_graded<G: Copy>(grades: &[Option<G>], cell: u16) -> bool
     ensures { result ≡ is_some (slice_index_or grades.now cell None) }
@@ -30,40 +26,33 @@ fn has_sources<G: Copy>(grades: &[Option<G>], record: Record) -> bool
     }
 }
 
-// Whether there is a record of that number, and all its sources have grades.
-fn is_ready<G: Copy, H: Heap>(heap: &H, grades: &[Option<G>], number: u16) -> bool
-    ensures { let h = H.Heap.meaning heap.now in
-        result ≡ ready_by grades.now (record_at h number) }
+// Whether a record stands there, and all its sources have grades.
+fn is_ready<G: Copy>(grades: &[Option<G>], place: Option<Record>) -> bool
+    ensures { result ≡ ready_by grades.now place }
 {
-    match heap.record(number as u32) {
-        Some(record) => has_sources(grades, record),
-        None => false,
-    }
+    place.is_some_and(|record| has_sources(grades, record))
 }
 
 fn count_graded<G: Copy>(grades: &[Option<G>]) -> u32
     ensures { result ≡ count_by is_some (take 1024 grades.now) }
 {
-    let mut count = 0;
-    for cell in 0..CELLS {
-        if is_graded(grades, cell) {
-            count += 1;
-        }
-    }
-    count
+    grades
+        .iter()
+        .take(usize::from(CELLS))
+        .filter(|grade| grade.is_some())
+        .count() as u32
 }
 
-fn count_ready<G: Copy, H: Heap>(heap: &H, grades: &[Option<G>]) -> u32
+// How many of the first records are ready. Their number is a parameter, since a proof would write
+// the list of 4,096 numbers out.
+fn count_ready<G: Copy, H: Heap>(heap: &H, grades: &[Option<G>], records: u16) -> u32
     ensures { let h = H.Heap.meaning heap.now in
-        result ≡ count_by (ready_by grades.now) h.records }
+        result ≡ count_by (ready_by grades.now) (map (record_at h) (range_with_len 0 records)) }
 {
-    let mut count = 0;
-    for number in 0..RECORDS {
-        if is_ready(heap, grades, number) {
-            count += 1;
-        }
-    }
-    count
+    (0..records)
+        .map(|number| heap.record(u32::from(number)))
+        .filter(|&place| is_ready(grades, place))
+        .count() as u32
 }
 
 // The cells that have grades, and the filled records whose sources all have.
@@ -74,6 +63,6 @@ pub fn counts<G: Copy, H: Heap>(heap: &H, grades: &[Option<G>]) -> Counts
 {
     Counts {
         settled: count_graded(grades),
-        weighed: count_ready(heap, grades),
+        weighed: count_ready(heap, grades, RECORDS),
     }
 }

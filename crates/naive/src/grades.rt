@@ -4,11 +4,7 @@ ghost use Rattle.std.specs.Prelude.{◌≡◌, false, length, Some, None, nat_lt
 pub fn fetch<G: Copy>(grades: &[Option<G>], cell: u16) -> Option<G>
     ensures { result ≡ slice_index_or grades.now cell None }
 {
-    if (cell as usize) < grades.len() {
-        grades[cell as usize]
-    } else {
-        None
-    }
+    grades.get(usize::from(cell)).copied().flatten()
 }
 
 // Writes a grade down, and says whether there was a place for it.
@@ -17,10 +13,11 @@ pub fn store<G: Copy>(grades: &mut [Option<G>], cell: u16, grade: G) -> bool
     ensures still { result ≡ false → grades.new ≡ grades.old }
     ensures had_room { result ≡ nat_lt cell (length grades.old) }
 {
-    if (cell as usize) < grades.len() {
-        grades[cell as usize] = Some(grade);
-        true
-    } else {
-        false
+    // the contract of a slice's `get_mut` says nothing of the elements afterwards
+    let place = usize::from(cell);
+    let has_room = place < grades.len();
+    if has_room {
+        grades[place] = Some(grade);
     }
+    has_room
 }

@@ -3,29 +3,20 @@ ghost use Rattle.std.specs.Prelude.{◌≡◌, true, false, Some};
 ghost use Rattle.model.specs.Meaning.{record_at};
 ghost use Rattle.naive.specs.Resting.{betters, changes, moves, AtRest};
 
-use crate::give::{grade_from, target_of};
+use crate::give::grade_from;
 use crate::grades::{fetch, store};
-use model::heap::Heap;
+use model::heap::{CELLS, Heap, RECORDS};
 use model::scheme::{Rank, Scheme};
-
-// How many records a heap has.
-const RECORDS: u16 = 4096;
 
 // A best way to a cell goes through no cell twice, so that 1,024 passes find it, and one more
 // finds nothing.
-const PASSES: u16 = 1025;
+const PASSES: u16 = CELLS + 1;
 
 // Whether a grade is better than what a cell has.
 fn is_better<S: Scheme>(scheme: &S, new: S::Grade, old: Option<S::Grade>) -> bool
     ensures { result ≡ betters (S.Scheme.model scheme.now) new old }
 {
-    let Some(old) = old else {
-        return true;
-    };
-    match scheme.rank(new, old) {
-        Rank::Before => true,
-        Rank::Same | Rank::After => false,
-    }
+    old.is_none_or(|old| scheme.rank(new, old) == Rank::Before)
 }
 
 // Writes a grade down where it is better than what the cell has, and says whether it was.
@@ -54,13 +45,13 @@ fn visit<S: Scheme, H: Heap>(
         result ≡ moves s h grades.old number (record_at h number) }
     ensures still { result ≡ false → grades.new ≡ grades.old }
 {
-    let Some(record) = heap.record(number as u32) else {
+    let Some(record) = heap.record(u32::from(number)) else {
         return false;
     };
     let Some(grade) = grade_from(scheme, heap, grades, number, record) else {
         return false;
     };
-    improve(scheme, grades, target_of(record), grade)
+    improve(scheme, grades, record.target(), grade)
 }
 
 // Lets every record give what it can, and says whether a grade changed.
@@ -71,9 +62,7 @@ fn pass<S: Scheme, H: Heap>(scheme: &S, heap: &H, grades: &mut [Option<S::Grade>
 {
     let mut changed = false;
     for number in 0..RECORDS {
-        if visit(scheme, heap, grades, number) {
-            changed = true;
-        }
+        changed |= visit(scheme, heap, grades, number);
     }
     changed
 }
@@ -85,9 +74,7 @@ pub fn grade<S: Scheme, H: Heap>(scheme: &S, heap: &H, grades: &mut [Option<S::G
         let h = H.Heap.meaning heap.now in
         (result ≡ true → AtRest s h grades.new) }
 {
-    for grade in grades.iter_mut() {
-        *grade = None;
-    }
+    grades.fill(None);
     for _ in 0..PASSES {
         if !pass(scheme, heap, grades) {
             return true;

@@ -1,28 +1,37 @@
 // What a line's answer has to look like, and what a line may change.
 use text::number::value;
 
-// An answer: that the line was accepted, or the number and the byte of its refusal.
+// The refusal of a line: the number of its fault, and the byte where it lies.
 #[derive(Clone, Copy)]
-pub enum Answer {
-    Accepted,
-    Refused { number: u32, byte: u32 },
+pub struct Refused {
+    pub number: u32,
+    byte: u32,
 }
 
-// The number and the byte, which stand behind `no`, the layer and a space.
-fn read_refusal(text: &[u8]) -> Option<Answer> {
-    for (i, letter) in text.iter().enumerate() {
-        if *letter == b' ' {
-            return Some(Answer::Refused {
-                number: value(&text[0..i])?,
-                byte: value(&text[i + 1..])?,
-            });
+impl Refused {
+    // What stands behind `no`, the layer and a space: the number, a space and the byte.
+    fn read(text: &[u8]) -> Option<Refused> {
+        let space = text.iter().position(|&letter| letter == b' ')?;
+        Some(Refused {
+            number: value(&text[..space])?,
+            byte: value(&text[space + 1..])?,
+        })
+    }
+
+    // Whether its byte is where a word of the line begins; that of a long line is the first too
+    // many.
+    fn is_in(self, line: &[u8]) -> bool {
+        let at = self.byte as usize;
+        if self.number == 30 {
+            at == 80 && line.len() > 80
+        } else {
+            at == 0 || line.get(at - 1) == Some(&b' ')
         }
     }
-    None
 }
 
 // The answer that was printed, if it is one line and one answer.
-pub fn read_answer(printed: &[u8]) -> Option<Answer> {
+pub fn read_answer(printed: &[u8]) -> Option<Result<(), Refused>> {
     let [text @ .., b'\n'] = printed else {
         return None;
     };
@@ -30,30 +39,18 @@ pub fn read_answer(printed: &[u8]) -> Option<Answer> {
         return None;
     }
     match text {
-        [b'o', b'k'] | [b'o', b'k', b' ', ..] => Some(Answer::Accepted),
-        [b'n', b'o', b' ', b't' | b'h', b' ', rest @ ..] => read_refusal(rest),
+        [b'o', b'k'] | [b'o', b'k', b' ', ..] => Some(Ok(())),
+        [b'n', b'o', b' ', b't' | b'h', b' ', rest @ ..] => Refused::read(rest).map(Err),
         _ => None,
-    }
-}
-
-// Whether the byte of a refusal is where a word begins; that of a long line is the first too many.
-fn is_place(line: &[u8], number: u32, byte: u32) -> bool {
-    let at = byte as usize;
-    if number == 30 {
-        at == 80 && line.len() > 80
-    } else {
-        at == 0 || (at <= line.len() && line[at - 1] == b' ')
     }
 }
 
 // Whether an answer goes with its line and with how many cells and records the line changed: a
 // refused line changes none, and so do the questions; any other changes one.
-pub fn is_right(line: &[u8], answer: Answer, changed: u32) -> bool {
+pub fn is_right(line: &[u8], answer: Result<(), Refused>, changed: u32) -> bool {
     match answer {
-        Answer::Refused { number, byte } => changed == 0 && is_place(line, number, byte),
-        Answer::Accepted => match line {
-            [b'g' | b'w', ..] => changed == 0,
-            _ => changed == 1,
-        },
+        Err(refused) => changed == 0 && refused.is_in(line),
+        Ok(()) if matches!(line, [b'g' | b'w', ..]) => changed == 0,
+        Ok(()) => changed == 1,
     }
 }

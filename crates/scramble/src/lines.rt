@@ -1,5 +1,6 @@
 // Lines made by dice. Numbers are small, so that lines meet each other in the heap, and each of
 // their words goes wrong now and then.
+use model::heap::{CELLS, LARGEST_SIZE, RECORDS};
 use std::alloc::AllocError;
 use text::write::{write_byte, write_number, write_text};
 use trials::dice::Dice;
@@ -14,69 +15,69 @@ enum Word {
     Scheme,
 }
 
-fn any_cell(dice: &mut Dice) -> u32 {
-    match dice.roll(40) {
-        0 => 1024,
-        1 => 1023,
-        2 => u32::MAX,
-        _ => dice.roll(8),
-    }
+// Numbers of a kind: the three at the edge of its range, of which each comes once in so many
+// times, and how many small ones there are.
+#[derive(Clone, Copy)]
+struct Numbers {
+    edges: [u32; 3],
+    times: u32,
+    small: u32,
 }
 
-fn any_size(dice: &mut Dice) -> u32 {
-    match dice.roll(20) {
-        0 => 0,
-        1 => 1048576,
-        2 => 1048577,
-        _ => dice.roll(100),
-    }
-}
+const CELL_NUMBERS: Numbers = Numbers {
+    edges: [CELLS as u32, CELLS as u32 - 1, u32::MAX],
+    times: 40,
+    small: 8,
+};
 
-fn any_number(dice: &mut Dice) -> u32 {
-    match dice.roll(40) {
-        0 => 4096,
-        1 => 4095,
-        2 => u32::MAX,
-        _ => dice.roll(16),
-    }
-}
+const SIZES: Numbers = Numbers {
+    edges: [0, LARGEST_SIZE, LARGEST_SIZE + 1],
+    times: 20,
+    small: 100,
+};
 
-// A word that is no number and no letter that a command wants.
-fn write_bad_word(dice: &mut Dice, line: &mut Vec<u8>) -> Result<(), AllocError> {
-    match dice.roll(10) {
-        0 => write_text(line, b""),
-        1 => write_text(line, b"01"),
-        2 => write_text(line, b"4294967296"),
-        3 => write_text(line, b"12345678901"),
-        4 => write_text(line, b"-1"),
-        5 => write_text(line, b"1\t"),
-        6 => write_text(line, b"q"),
-        7 => write_text(line, b"ss"),
-        8 => write_text(line, b"\xb3"),
-        _ => write_text(line, b"5s"),
-    }
-}
+const RECORD_NUMBERS: Numbers = Numbers {
+    edges: [RECORDS as u32, RECORDS as u32 - 1, u32::MAX],
+    times: 40,
+    small: 16,
+};
 
-fn write_letter(dice: &mut Dice, line: &mut Vec<u8>, letters: [u8; 4]) -> Result<(), AllocError> {
-    let [a, b, c, d] = letters;
-    match dice.roll(4) {
-        0 => write_byte(line, a),
-        1 => write_byte(line, b),
-        2 => write_byte(line, c),
-        _ => write_byte(line, d),
-    }
+// Words that are no number and no letter that a command wants.
+const BAD_WORDS: [&[u8]; 10] = [
+    b"",
+    b"01",
+    b"4294967296",
+    b"12345678901",
+    b"-1",
+    b"1\t",
+    b"q",
+    b"ss",
+    b"\xb3",
+    b"5s",
+];
+
+fn write_any_number(
+    dice: &mut Dice,
+    line: &mut Vec<u8>,
+    numbers: Numbers,
+) -> Result<(), AllocError> {
+    let number = match numbers.edges.get(dice.roll(numbers.times) as usize) {
+        Some(&edge) => edge,
+        None => dice.roll(numbers.small),
+    };
+    write_number(line, u64::from(number))
 }
 
 fn write_word(dice: &mut Dice, line: &mut Vec<u8>, word: Word) -> Result<(), AllocError> {
     if dice.once_in(40) {
-        return write_bad_word(dice, line);
+        return write_text(line, BAD_WORDS[dice.roll(10) as usize]);
     }
     match word {
-        Word::Cell => write_number(line, any_cell(dice) as u64),
-        Word::Size => write_number(line, any_size(dice) as u64),
-        Word::Number => write_number(line, any_number(dice) as u64),
-        Word::Strength => write_letter(dice, line, *b"sfwp"),
-        Word::Scheme => write_letter(dice, line, *b"sbdb"),
+        Word::Cell => write_any_number(dice, line, CELL_NUMBERS),
+        Word::Size => write_any_number(dice, line, SIZES),
+        Word::Number => write_any_number(dice, line, RECORD_NUMBERS),
+        Word::Strength => write_byte(line, b"sfwp"[dice.roll(4) as usize]),
+        Word::Scheme => write_byte(line, b"sbdb"[dice.roll(4) as usize]),
     }
 }
 
@@ -88,12 +89,12 @@ fn write_words(
     words: &[Word],
 ) -> Result<(), AllocError> {
     write_byte(line, letter)?;
-    for word in words {
+    for &word in words {
         if dice.once_in(60) {
             return Ok(());
         }
         write_byte(line, b' ')?;
-        write_word(dice, line, *word)?;
+        write_word(dice, line, word)?;
     }
     if dice.once_in(40) {
         write_text(line, b" 7")?;
@@ -102,26 +103,20 @@ fn write_words(
 }
 
 fn write_command(dice: &mut Dice, line: &mut Vec<u8>) -> Result<(), AllocError> {
-    match dice.roll(16) {
-        0 | 1 | 2 => write_words(dice, line, b'c', &[Word::Cell, Word::Size]),
-        3 | 4 => write_words(dice, line, b'r', &[Word::Number, Word::Cell]),
-        5 | 6 | 7 => write_words(
-            dice,
-            line,
+    let (letter, words): (u8, &[Word]) = match dice.roll(16) {
+        0..=2 => (b'c', &[Word::Cell, Word::Size]),
+        3 | 4 => (b'r', &[Word::Number, Word::Cell]),
+        5..=7 => (
             b'l',
             &[Word::Number, Word::Cell, Word::Cell, Word::Strength],
         ),
-        8 | 9 | 10 => write_words(
-            dice,
-            line,
-            b'e',
-            &[Word::Number, Word::Cell, Word::Cell, Word::Cell],
-        ),
-        11 | 12 => write_words(dice, line, b'x', &[Word::Number]),
-        13 => write_words(dice, line, b'g', &[Word::Scheme]),
-        14 => write_words(dice, line, b'w', &[Word::Scheme, Word::Cell]),
-        _ => write_words(dice, line, b'q', &[Word::Number]),
-    }
+        8..=10 => (b'e', &[Word::Number, Word::Cell, Word::Cell, Word::Cell]),
+        11 | 12 => (b'x', &[Word::Number]),
+        13 => (b'g', &[Word::Scheme]),
+        14 => (b'w', &[Word::Scheme, Word::Cell]),
+        _ => (b'q', &[Word::Number]),
+    };
+    write_words(dice, line, letter, words)
 }
 
 // Any bytes but the one that ends a line.

@@ -1,5 +1,5 @@
 // Scripts, run line by line and byte by byte.
-use crate::answers::{Answer, is_right, read_answer};
+use crate::answers::{Refused, is_right, read_answer};
 use crate::lines::write_line;
 use live::live::LiveHeap;
 use script::line::answer;
@@ -10,10 +10,10 @@ use trials::dice::Dice;
 use trials::fill::{differences, rebuilt};
 use trials::tally::Tally;
 
-fn note(tally: &mut Tally, answer: Answer) {
+fn note(tally: &mut Tally, answer: Result<(), Refused>) {
     match answer {
-        Answer::Accepted => tally.note_accepted(),
-        Answer::Refused { number, .. } => tally.note_refused(number),
+        Ok(()) => tally.note_accepted(),
+        Err(refused) => tally.note_refused(refused.number),
     }
 }
 
@@ -38,8 +38,8 @@ fn try_line(
 }
 
 fn feed(script: &mut Script, line: &[u8], out: &mut Vec<u8>) -> Result<(), AllocError> {
-    for byte in line {
-        script.take(*byte, out)?;
+    for &byte in line {
+        script.take(byte, out)?;
     }
     script.take(b'\n', out)
 }

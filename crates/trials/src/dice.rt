@@ -30,8 +30,7 @@ impl Dice {
     pub fn roll(&mut self, sides: u32) -> u32
         ensures { result ≤ sides - 1 }
     {
-        let number = self.next();
-        if sides == 0 { 0 } else { number % sides }
+        self.next().checked_rem(sides).unwrap_or(0)
     }
 
     // Whether something that happens once in `times` happens now.

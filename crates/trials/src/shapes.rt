@@ -2,9 +2,10 @@
 ghost use Rattle.std.specs.Prelude.{◌<◌};
 
 use crate::dice::Dice;
-use crate::fill::{CELLS, RECORDS, fill};
+use crate::fill::fill;
 use live::live::LiveHeap;
 use model::fault::Fault;
+use model::heap::{CELLS, RECORDS};
 use model::record::{Record, Strength};
 
 // What the records of a heap are like.
@@ -51,29 +52,22 @@ struct Spread {
 impl Spread {
     fn roll(dice: &mut Dice) -> Self {
         Spread {
-            first: dice.roll(RECORDS),
-            step: 2 * dice.roll(RECORDS) + 1,
+            first: dice.roll(u32::from(RECORDS)),
+            step: 2 * dice.roll(u32::from(RECORDS)) + 1,
         }
     }
 
-    fn cell(self, n: u32) -> u16
-        ensures { result < 1024 }
+    // Its number `n`, below `end`.
+    fn number(self, n: u32, end: u16) -> u16
+        requires { 0 < end }
+        ensures { result < end }
     {
-        (self.first.wrapping_add(n.wrapping_mul(self.step)) % CELLS) as u16
-    }
-
-    fn record(self, n: u32) -> u32 {
-        self.first.wrapping_add(n.wrapping_mul(self.step)) % RECORDS
+        (self.first.wrapping_add(n.wrapping_mul(self.step)) % u32::from(end)) as u16
     }
 }
 
 fn any_strength(dice: &mut Dice) -> Strength {
-    match dice.roll(4) {
-        0 => Strength::Strong,
-        1 => Strength::Soft,
-        2 => Strength::Weak,
-        _ => Strength::Phantom,
-    }
+    Strength::try_from(dice.roll(4)).unwrap_or(Strength::Phantom)
 }
 
 // The cells of a heap, and what its records are to be like.
@@ -87,7 +81,7 @@ struct Draft {
 impl Draft {
     // The cell after `n` cells, where the first follows the last.
     fn cell(self, n: u32) -> u16 {
-        self.cells.cell(if n < self.count { n } else { 0 })
+        self.cells.number(if n < self.count { n } else { 0 }, CELLS)
     }
 
     fn any_cell(self, dice: &mut Dice) -> u16 {
@@ -112,7 +106,7 @@ impl Draft {
 
     // Any record that the shape allows.
     fn any_record(self, dice: &mut Dice) -> Record {
-        if let Shape::Unrooted = self.shape {
+        if matches!(self.shape, Shape::Unrooted) {
             return self.any_link(dice);
         }
         // few roots, so that most cells are reached from other cells
@@ -173,7 +167,7 @@ impl Draft {
     fn put_cells(self, dice: &mut Dice, heap: &mut LiveHeap, largest: u32) -> Result<(), Fault> {
         for n in 0..self.count {
             let size = 1 + dice.roll(largest);
-            heap.put(self.cell(n) as u32, size)?;
+            heap.put(u32::from(self.cell(n)), size)?;
         }
         Ok(())
     }
@@ -181,7 +175,7 @@ impl Draft {
     fn fill_records(self, dice: &mut Dice, heap: &mut LiveHeap, count: u32) -> Result<(), Fault> {
         let numbers = Spread::roll(dice);
         for n in 0..count {
-            let number = numbers.record(n);
+            let number = u32::from(numbers.number(n, RECORDS));
             fill(heap, number, self.record(dice, n))?;
             // some are taken out again, and others take their place
             if dice.once_in(16) {

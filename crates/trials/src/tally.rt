@@ -30,13 +30,11 @@ impl Tally {
 
     // Notes a refusal with the number of its fault.
     pub fn note_refused(&mut self, number: u32) {
-        let n = number as usize;
-        if n < NUMBERS {
-            self.tried = self.tried.saturating_add(1);
-            self.refused[n] = self.refused[n].saturating_add(1);
-        } else {
-            self.note_wrong();
-        }
+        let Some(count) = self.refused.get_mut(number as usize) else {
+            return self.note_wrong();
+        };
+        *count = count.saturating_add(1);
+        self.tried = self.tried.saturating_add(1);
     }
 
     pub fn note_wrong(&mut self) {
@@ -49,8 +47,8 @@ impl fmt::Display for Tally {
     fn fmt<W: fmt::Write>(&self, f: &mut fmt::Formatter<W>) -> fmt::Result {
         write!(f, "{} wrong {}", self.tried, self.wrong)?;
         write!(f, "\naccepted {}", self.accepted)?;
-        for (number, count) in self.refused.iter().enumerate() {
-            if *count > 0 {
+        for (number, &count) in self.refused.iter().enumerate() {
+            if count > 0 {
                 write!(f, "\nrefused with {number}: {count}")?;
             }
         }

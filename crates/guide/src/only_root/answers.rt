@@ -1,8 +1,8 @@
 ghost use Rattle.std.specs.Prelude.{◌≡◌};
 ghost use Rattle.guide.specs.OnlyRoot.{meaning_of, formed_of, size_in, size_if};
 
-use super::{LARGEST_SIZE, OnlyRoot};
-use model::heap::Heap;
+use super::OnlyRoot;
+use model::heap::{Heap, LARGEST_SIZE};
 use model::record::Record;
 
 impl OnlyRoot {
@@ -10,7 +10,7 @@ impl OnlyRoot {
     pub fn new(size: u32) -> Option<OnlyRoot>
         ensures { size_in result ≡ size_if size }
     {
-        if 1 <= size && size <= LARGEST_SIZE {
+        if (1..=LARGEST_SIZE).contains(&size) {
             Some(OnlyRoot { size })
         } else {
             None
@@ -24,14 +24,10 @@ impl Heap for OnlyRoot {
     ghost formed = { formed_of };
 
     fn cell(&self, n: u32) -> Option<u32> {
-        if n == 0 { Some(self.size) } else { None }
+        (n == 0).then_some(self.size)
     }
 
     fn record(&self, n: u32) -> Option<Record> {
-        if n == 0 {
-            Some(Record::Root { target: 0 })
-        } else {
-            None
-        }
+        (n == 0).then_some(Record::Root { target: 0 })
     }
 }

@@ -1,5 +1,6 @@
-use Rattle.guide.proofs.Elsewhere.{elsewhere}
+use Rattle.std.proofs.Common.{◌∙◌}
+use Rattle.guide.proofs.Alone.{first_alone}
 use Rattle.guide.proofs.only_root.answers.OnlyRootHeap.cell.Goals as goal
 
-pub returns-else-n-eq0 : goal.returns-else-n-eq0
-returns-else-n-eq0 c = elsewhere 1024 c.args.n _ c.if-n-eq0.false
+pub returns : goal.returns
+returns c = c.then_some.ensures ∙ first_alone 1023 c.args.n c.args.self.now.size

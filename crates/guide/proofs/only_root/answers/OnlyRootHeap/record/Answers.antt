@@ -1,5 +1,7 @@
-use Rattle.guide.proofs.Elsewhere.{elsewhere}
+use Rattle.std.proofs.Common.{◌∙◌}
+use Rattle.model.specs.declared.record.Record.TheVariants.{Root}
+use Rattle.guide.proofs.Alone.{first_alone}
 use Rattle.guide.proofs.only_root.answers.OnlyRootHeap.record.Goals as goal
 
-pub returns-else-n-eq0 : goal.returns-else-n-eq0
-returns-else-n-eq0 c = elsewhere 4096 c.args.n _ c.if-n-eq0.false
+pub returns : goal.returns
+returns c = c.then_some.ensures ∙ first_alone 4095 c.args.n (Root 0)
