@@ -25,9 +25,7 @@ fn too_few_rows_are_refused_and_stand(rt: HostRuntime) -> Result<(), Fail> {
         place: 0,
     };
     assert_eq!(rt; grade(&ByStrength, &heap, &mut rows), Err(short));
-    for row in rows {
-        assert_eq!(rt; row, OLD);
-    }
+    assert_eq!(rt; rows, [OLD; 1023]);
     Ok(())
 }
 
@@ -47,16 +45,10 @@ fn rows_behind_the_cells_stand(rt: HostRuntime) -> Result<(), Fail> {
         holder: 9,
         turn: 0,
     };
-    for (n, row) in rows.iter().enumerate() {
-        let expected = if n == 2 {
-            Some(reached)
-        } else if n < 1024 {
-            None
-        } else {
-            OLD
-        };
-        assert_eq!(rt; *row, expected);
-    }
+    let mut expected = [OLD; 1030];
+    expected[..1024].fill(None);
+    expected[2] = Some(reached);
+    assert_eq!(rt; rows, expected);
     Ok(())
 }
 

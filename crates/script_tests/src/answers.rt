@@ -1,17 +1,15 @@
 use live::live::LiveHeap;
 use script::line::answer;
-use std::alloc::Global;
 use std::process::Abort;
 use std::test::Fail;
 
 // Whether the lines, one after another on one heap that begins empty, are answered so.
 pub(super) fn check_answers(
-    rt: &impl Abort,
-    memory: Global,
+    rt: &(impl Abort + AllocGlobal),
     table: &[(&str, &str)],
 ) -> Result<(), Fail> {
     let mut heap = LiveHeap::new();
-    let mut out = Vec::new(memory);
+    let mut out = Vec::new(rt.alloc());
     for (line, expected) in table {
         out.clear();
         answer(&mut heap, line.as_bytes(), &mut out)?;

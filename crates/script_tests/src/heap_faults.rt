@@ -5,7 +5,6 @@ use std::test::Fail;
 fn every_fault_of_the_heap(rt: HostRuntime) -> Result<(), Fail> {
     check_answers(
         &rt,
-        rt.alloc(),
         &[
             ("c 1024 1", "no h 1 2"),
             ("c 0 0", "no h 3 4"),
@@ -35,7 +34,6 @@ fn every_fault_of_the_heap(rt: HostRuntime) -> Result<(), Fail> {
 fn the_largest_and_smallest_numbers_are_taken(rt: HostRuntime) -> Result<(), Fail> {
     check_answers(
         &rt,
-        rt.alloc(),
         &[
             ("c 1023 1048576", "ok"),
             ("c 0 1", "ok"),
@@ -54,7 +52,6 @@ fn the_largest_and_smallest_numbers_are_taken(rt: HostRuntime) -> Result<(), Fai
 fn arguments_are_judged_from_the_left(rt: HostRuntime) -> Result<(), Fail> {
     check_answers(
         &rt,
-        rt.alloc(),
         &[
             ("c 5 1", "ok"),
             ("r 3 5", "ok"),

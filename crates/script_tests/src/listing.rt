@@ -10,7 +10,6 @@ use text::command::SchemeName;
 fn a_heap_graded_by_strength_bytes_and_depth(rt: HostRuntime) -> Result<(), Fail> {
     check_answers(
         &rt,
-        rt.alloc(),
         &[
             ("c 0 10", "ok"),
             ("c 1 20", "ok"),
@@ -34,7 +33,6 @@ fn a_heap_graded_by_strength_bytes_and_depth(rt: HostRuntime) -> Result<(), Fail
 fn why_a_cell_survives(rt: HostRuntime) -> Result<(), Fail> {
     check_answers(
         &rt,
-        rt.alloc(),
         &[
             ("w s 0", "no h 12 4"),
             ("w s 1024", "no h 1 4"),
@@ -62,9 +60,15 @@ fn why_a_cell_survives(rt: HostRuntime) -> Result<(), Fail> {
 #[test]
 fn each_scheme_is_named_by_its_letter(rt: HostRuntime) {
     assert_eq!(rt;
-        SchemeName::of(ByStrength::LETTER),
+        SchemeName::try_from(ByStrength::LETTER).ok(),
         Some(SchemeName::Strength)
     );
-    assert_eq!(rt; SchemeName::of(ByBytes::LETTER), Some(SchemeName::Bytes));
-    assert_eq!(rt; SchemeName::of(ByDepth::LETTER), Some(SchemeName::Depth));
+    assert_eq!(rt;
+        SchemeName::try_from(ByBytes::LETTER).ok(),
+        Some(SchemeName::Bytes)
+    );
+    assert_eq!(rt;
+        SchemeName::try_from(ByDepth::LETTER).ok(),
+        Some(SchemeName::Depth)
+    );
 }

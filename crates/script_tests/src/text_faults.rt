@@ -7,7 +7,6 @@ use std::test::Fail;
 fn a_line_of_80_bytes_is_judged(rt: HostRuntime) -> Result<(), Fail> {
     check_answers(
         &rt,
-        rt.alloc(),
         &[
             (
                 "c 1 111111111111111111111111111111111111111111111111111111111111111111111111111",
@@ -29,7 +28,6 @@ fn a_line_of_80_bytes_is_judged(rt: HostRuntime) -> Result<(), Fail> {
 fn words_that_are_no_command(rt: HostRuntime) -> Result<(), Fail> {
     check_answers(
         &rt,
-        rt.alloc(),
         &[
             ("", "no t 31 0"),
             (" ", "no t 31 0"),
@@ -50,7 +48,6 @@ fn words_that_are_no_command(rt: HostRuntime) -> Result<(), Fail> {
 fn words_too_few_or_too_many(rt: HostRuntime) -> Result<(), Fail> {
     check_answers(
         &rt,
-        rt.alloc(),
         &[
             ("g  s", "no t 32 0"),
             ("g s ", "no t 32 0"),
@@ -72,7 +69,6 @@ fn words_too_few_or_too_many(rt: HostRuntime) -> Result<(), Fail> {
 fn words_that_are_no_number_or_letter(rt: HostRuntime) -> Result<(), Fail> {
     check_answers(
         &rt,
-        rt.alloc(),
         &[
             ("c  1", "no t 33 2"),
             ("c 1 ", "no t 33 4"),
@@ -98,7 +94,6 @@ fn words_that_are_no_number_or_letter(rt: HostRuntime) -> Result<(), Fail> {
 fn the_text_is_judged_before_the_heap(rt: HostRuntime) -> Result<(), Fail> {
     check_answers(
         &rt,
-        rt.alloc(),
         &[
             ("l 4096 2 3 q", "no t 33 11"),
             ("l 4096 2 3 s", "no h 4 2"),

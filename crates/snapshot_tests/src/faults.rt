@@ -14,13 +14,10 @@ fn check_opens(rt: &impl Abort, file: &[u8]) {
     assert_eq!(rt; Snapshot::empty().open(file), Ok(()));
 }
 
-// Whether the good file is refused so once one of its bytes is another.
-fn check_changed(rt: &impl Abort, at: usize, byte: u8, cause: Cause, place: u32) {
-    let mut file = GOOD;
-    if at < file.len() {
-        file[at] = byte;
-    }
-    check_refused(rt, &file, cause, place);
+// A file with another byte at a place of it.
+fn with_byte<const N: usize>(rt: &impl Abort, mut file: [u8; N], at: usize, byte: u8) -> [u8; N] {
+    *file.get_mut(at).expect(rt, "a place of the file") = byte;
+    file
 }
 
 #[test]
@@ -92,7 +89,7 @@ fn each_fault_at_its_edges(rt: HostRuntime) {
         (102, 4, Cause::CellMissing, 96),
         (103, 3, Cause::CellMissing, 96),
     ] {
-        check_changed(&rt, at, byte, cause, place);
+        check_refused(&rt, &with_byte(&rt, GOOD, at, byte), cause, place);
     }
 }
 
@@ -108,9 +105,7 @@ fn numbers_within_their_ranges_are_taken(rt: HostRuntime) {
         (88, 255),
         (97, 15),
     ] {
-        let mut file = GOOD;
-        file[at] = byte;
-        check_opens(&rt, &file);
+        check_opens(&rt, &with_byte(&rt, GOOD, at, byte));
     }
     check_opens(&rt, &EDGES);
 }
@@ -126,23 +121,22 @@ fn numbers_just_above_their_ranges_are_refused(rt: HostRuntime) {
         (62, 4, 56),
         (65, 16, 64),
     ] {
-        let mut file = EDGES;
-        file[at] = byte;
-        check_refused(&rt, &file, Cause::FieldRange, place);
+        check_refused(
+            &rt,
+            &with_byte(&rt, EDGES, at, byte),
+            Cause::FieldRange,
+            place,
+        );
     }
 }
 
-// The offsets and lengths of the four sections in turn.
+// The good file with other offsets and lengths of its four sections in turn, of which it gives the
+// lowest bytes.
 fn with_pairs(pairs: [u8; 8]) -> [u8; 104] {
     let mut file = GOOD;
-    file[4] = pairs[0];
-    file[8] = pairs[1];
-    file[12] = pairs[2];
-    file[16] = pairs[3];
-    file[20] = pairs[4];
-    file[24] = pairs[5];
-    file[28] = pairs[6];
-    file[32] = pairs[7];
+    for (place, byte) in file.iter_mut().skip(4).step_by(4).zip(pairs) {
+        *place = byte;
+    }
     file
 }
 

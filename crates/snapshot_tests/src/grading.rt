@@ -27,9 +27,7 @@ fn a_saved_heap_grades_as_a_live_one(rt: HostRuntime) -> Result<(), Fail> {
     let mut saved_rows: [Option<Row<u32>>; 1024] = [None; 1024];
     assert_eq!(rt; grade(&ByBytes, &live, &mut live_rows), Ok(counts));
     assert_eq!(rt; grade(&ByBytes, &saved, &mut saved_rows), Ok(counts));
-    for (n, row) in saved_rows.iter().enumerate() {
-        assert_eq!(rt; *row, live_rows[n]);
-    }
+    assert_eq!(rt; saved_rows, live_rows);
     let last = Row {
         grade: 53,
         holder: 2,

@@ -10,11 +10,8 @@ use std::test::Fail;
 fn write_entries(out: &mut Vec<u8>, highs: u8, fields: [u8; 6]) -> Result<(), AllocError> {
     for high in 0..highs {
         for low in 0..=255u8 {
-            out.push(low)?;
-            out.push(high)?;
-            for byte in fields {
-                out.push(byte)?;
-            }
+            out.extend_from_slice(&[low, high])?;
+            out.extend_from_slice(&fields)?;
         }
     }
     Ok(())
@@ -48,9 +45,7 @@ fn check_opens_to_all(rt: &impl Abort, file: &[u8]) {
 #[test]
 fn the_largest_file(rt: HostRuntime) -> Result<(), Fail> {
     let mut file = Vec::new(rt.alloc());
-    for byte in LARGEST_HEAD {
-        file.push(byte)?;
-    }
+    file.extend_from_slice(&LARGEST_HEAD)?;
     write_entries(&mut file, 4, [0, 0, 0, 0, 16, 0])?;
     write_entries(&mut file, 16, [255, 3, 0, 0, 3, 0])?;
     check_opens_to_all(&rt, &file[..]);
