@@ -59,13 +59,10 @@ after_command h (Erase number) = erase_after h number
 after_command h (Grade scheme) = h
 after_command h (Why scheme cell) = h
 
--- a fault of the heap, with the byte where its argument's word begins
-abbrev pub placed_fault : Reading → Fault → Refusal
-placed_fault w f = record { fault = f; byte = byte_of w f.place }
-
+-- the heap's fault whole, with the byte where its argument's word begins
 abbrev pub placed : {A : Type 0} → Reading → Result A Fault → Result A Refusal
 placed w (Ok a) = Ok a
-placed w (Err f) = Err (placed_fault w f)
+placed w (Err f) = Err (record { fault = f; byte = byte_of w f.place })
 
 -- the command of a line that is obeyed, or the line's first fault
 abbrev pub obeyed : Meaning → List ℕ → Result Command Refusal
@@ -110,16 +107,6 @@ abbrev pub scheme_why_text : SchemeName → Meaning → ℕ → List ℕ
 scheme_why_text Strength h c = why_text strength_text by_strength h c fresh_rows fresh_steps
 scheme_why_text Bytes h c = why_text bytes_text by_bytes h c fresh_rows fresh_steps
 scheme_why_text Depth h c = why_text depth_text by_depth h c fresh_rows fresh_steps
-
--- what came of an edit
-abbrev pub edit_text : Result (Unit {0}) Refusal → List ℕ
-edit_text (Ok u) = codes "ok"
-edit_text (Err r) = refusal_text r
-
--- what a line is told of a cell
-abbrev pub explanation_text : {G : Type 0} → (G → List ℕ) → Result (Explanation G) Refusal → List ℕ → List ℕ
-explanation_text show (Ok k) steps = explained_text show k steps
-explanation_text show (Err r) steps = refusal_text r
 
 -- an edit answers ok, a grading its counts and cells, an explanation its steps, a refusal its fault
 abbrev pub outcome_text : Meaning → Result Command Refusal → List ℕ

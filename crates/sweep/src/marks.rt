@@ -11,7 +11,10 @@ use model::scheme::{Rank, Scheme};
 fn is_within<S: Scheme>(scheme: &S, limit: S::Grade, row: Option<Row<S::Grade>>) -> bool
     ensures { result ≡ within (S.Scheme.model scheme.now) limit row }
 {
-    row.is_some_and(|row| matches!(scheme.rank(row.grade, limit), Rank::Before | Rank::Same))
+    let Some(row) = row else {
+        return false;
+    };
+    matches!(scheme.rank(row.grade, limit), Rank::Before | Rank::Same)
 }
 
 // A flag for each cell: whether it stays. The rows are a slice, since an array of them would have to
