@@ -36,8 +36,9 @@ pub fn better<S: Scheme>(
     ensures { result ≡ better_of (S.Scheme.model scheme.now) a b }
 {
     match (a, b) {
-        (Some(old), Some(new)) => Some(if beats(scheme, new, old) { new } else { old }),
-        _ => a.or(b),
+        (Some(old), Some(new)) => if beats(scheme, new, old) { b } else { a },
+        (None, _) => b,
+        _ => a,
     }
 }
 
