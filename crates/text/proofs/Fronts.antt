@@ -1,8 +1,9 @@
 -- How far the first word of a line goes, and how many words there are.
-use Rattle.std.proofs.Common.{◌≡◌, ℕ, suc, ◌+◌, ◌≤◌, Bool, true, false, cond, not, eqb, List, [], ◌∷◌, length, take, drop, Some, None, Option, refl, ap, ◌∙◌, arith}
+use Rattle.std.proofs.Common.{◌≡◌, ℕ, suc, ◌+◌, ◌<◌, ◌≤◌, Bool, true, false, cond, not, eqb, List, [], ◌∷◌, length, get_or, take, drop, Some, None, Option, refl, ap, add-one, drop-cons, eq-eqb, ne_eqb, ◌∙◌, arith}
+use Rattle.std.proofs.lemmas.List.{drop_all}
 use Rattle.std.proofs.lemmas.Bool.{ltb-false}
 use lib.Dec.{ltb}
-use Rattle.std.specs.List.{position_or_len, position, filter}
+use Rattle.std.specs.List.{position_or_len, position}
 use Rattle.text.specs.Words.{front, behind, word_count}
 
 abbrev pub is_space : ℕ → Bool
@@ -36,15 +37,19 @@ behind_after (b ∷ bs) = go (eqb b 32) (behind_after bs)
         ap (λ (m : ℕ). drop m (b ∷ bs)) {x = 1 + n + 1} {y = suc (n + 1)} (omega arith) ∙ h
 
 -- each space brings a word more, and no other byte does
-pub spaces_counted : (bs : List ℕ) → 1 + length (filter is_space bs) ≡ word_count bs
+pub count_on : (bs : List ℕ) (i : ℕ) → i < length bs → get_or bs i 0 ≡ 32
+    → word_count (drop i bs) ≡ 1 + word_count (drop (i + 1) bs)
 unfolding word_count
-spaces_counted [] = refl
-spaces_counted (b ∷ bs) = go (eqb b 32) (spaces_counted bs)
-  where
-    go : (t : Bool) → 1 + length (filter is_space bs) ≡ word_count bs
-        → 1 + length (cond t (b ∷ filter is_space bs) (filter is_space bs)) ≡ cond t 1 0 + word_count bs
-    go true h = omega (arith, h)
-    go false h = omega (arith, h)
+count_on bs i l e = let f = eq-eqb (get_or bs i 0) 32 e in rw (add-one, drop-cons bs i 0, f)
+
+pub count_off : (bs : List ℕ) (i : ℕ) → i < length bs → (get_or bs i 0 ≡ 32 → ⊥)
+    → word_count (drop i bs) ≡ word_count (drop (i + 1) bs)
+unfolding word_count
+count_off bs i l e = let f = ne_eqb (get_or bs i 0) 32 e in rw (add-one, drop-cons bs i 0, f) (omega arith)
+
+pub count_none : (bs : List ℕ) (i : ℕ) → length bs ≤ i → word_count (drop i bs) ≡ 1
+unfolding word_count
+count_none bs i l = rw (drop_all i bs l)
 
 -- the first space is where it was found
 pub space_found : (bs : List ℕ) (i : ℕ) → Some i ≡ position is_space bs → i ≡ position_or_len is_space bs

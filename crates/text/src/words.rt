@@ -79,10 +79,17 @@ impl<'a> Rest<'a> {
     }
 }
 
+// A loop, since `filter` with `count` took twice as long for a line of spaces.
 fn count_words(line: &[u8]) -> usize
     ensures { result ≡ word_count line.now }
 {
-    1 + line.iter().filter(|b| **b == SPACE).count()
+    let mut count = 1;
+    for b in line {
+        if *b == SPACE {
+            count += 1;
+        }
+    }
+    count
 }
 
 // The words of a line that is not too long.
